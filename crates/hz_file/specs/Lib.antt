@@ -1,0 +1,4 @@
+pub mod Layout
+pub mod Module
+pub mod Opening
+pub mod Rules

@@ -1,0 +1,17 @@
+//! The bytecode file.
+#![tactic(auto)]
+
+mod file;
+mod function;
+mod kind;
+mod malformed;
+mod numbers;
+mod rules;
+mod sections;
+mod string;
+
+pub use file::{File, has_magic};
+pub use function::FunctionView;
+pub use kind::FunctionKind;
+pub use malformed::Malformed;
+pub use string::StringView;
