@@ -1,2 +1,4 @@
+pub mod Shown
+pub mod Sound
 pub mod Walking
 pub mod Wide

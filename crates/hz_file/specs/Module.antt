@@ -32,7 +32,8 @@ function_at bytes at = record {
   kind = kind_of (kind_number bytes at);
   length = slice_index bytes (at + 1);
   registers = register_count bytes at;
-  code = if has_code bytes at then Some (code_bytes bytes at) else None }
+  code = if has_code bytes at then Some (code_bytes bytes at) else None;
+}
 
 -- the n functions with headers from a place on
 abbrev pub functions_from : ℕ → ℕ → List ℕ → List FunctionParts
@@ -52,4 +53,5 @@ module_of bytes = record {
   strict = strict_flag bytes;
   source = source_bytes bytes;
   functions = functions_from (function_count bytes) (header_at 0) bytes;
-  texts = map (text_of bytes) (entries bytes) }
+  texts = map (text_of bytes) (entries bytes);
+}

@@ -1,11 +1,9 @@
 //! A file that breaks no rule, and what it holds.
 
-ghost use Rattle.std.specs.Prelude.{◌≡◌, ◌↔◌, ◌<◌, ◌+◌, ◌*◌, IsTrue, Some, None, length, map, slice_get, option_map, IfSome, MatchResult, MatchOption, Ok, Err};
-ghost use Rattle.hz_file.specs.Layout.{HasMagic, part, source_at, storage_at, code_at, header_at};
-ghost use Rattle.hz_file.specs.Module.{module_of, source_bytes, code_bytes, function_at};
+ghost use Rattle.std.specs.Prelude.{◌≡◌, ◌↔◌, ◌<◌, ◌≤◌, ◌+◌, ◌*◌, if◌then◌else◌, IsTrue, Some, None, length, map, slice_get, option_map, IfSome, MatchResult, MatchOption, Ok, Err};
+ghost use Rattle.hz_file.specs.Layout.{HasMagic, Fills, field, part, function_count, strings_at, source_at, source_length, code_at, code_place, code_size, code_length, has_code, header_at};
+ghost use Rattle.hz_file.specs.Module.{module_of, code_bytes, text_of};
 ghost use Rattle.hz_file.specs.Opening.{rule, fails};
-
-use std::marker::Model;
 
 use crate::function::FunctionView;
 use crate::kind::FunctionKind;
@@ -14,9 +12,10 @@ use crate::numbers::{part, u16_at, u32_at, u64_at};
 use crate::rules;
 use crate::sections::{self, Entry, FIRST_HEADER};
 use crate::string::StringView;
+use std::marker::Model;
 
 /// The eight bytes in front of every file.
-const MAGIC: [u8; 8] = [0xFF, 0x48, 0x42, 0x43, 0x57, 0x00, 0x0D, 0x0A];
+pub(crate) const MAGIC: [u8; 8] = [0xFF, 0x48, 0x42, 0x43, 0x57, 0x00, 0x0D, 0x0A];
 
 /// Whether the eight bytes stand in front that begin every file.
 pub fn has_magic(bytes: &[u8]) -> bool
@@ -71,5 +70,87 @@ impl<'a> File<'a> {
         check(11, rules::texts_fault(bytes))?;
         check(14, rules::footer_fault(bytes))?;
         Ok(File { bytes })
+    }
+}
+
+/// The code of the function with a header at a place, None in a stub.
+fn code(bytes: &[u8], at: usize) -> Option<&[u8]>
+    requires fills { Fills bytes.now }
+    requires header { at + 16 ≤ length bytes.now }
+    requires within { code_place bytes.now at + code_size bytes.now at ≤ code_length bytes.now }
+    ensures { option_map (λ code. code.now) result ≡ (if has_code bytes.now at then Some (code_bytes bytes.now at) else None) }
+{
+    if bytes[at] % 2 != 1 {
+        return None;
+    }
+    let place = sections::code_at(bytes) + u32_at(bytes, at + 4) as usize;
+    Some(part(bytes, place, u16_at(bytes, at + 8) as usize))
+}
+
+/// What the file holds. No call takes memory or copies.
+#[tactic(auto, using(crate::proofs::Sound::sound), unfolding(crate::specs::Module::module_of))]
+impl<'a> File<'a> {
+    /// The number of functions.
+    #[tactic(auto, using(crate::proofs::Sound::sound, crate::proofs::Shown::function_count_is))]
+    pub fn count(&self) -> u32
+        ensures shown { result ≡ length (module_of self.now).functions }
+        ensures field { result ≡ function_count self.now }
+    {
+        u64_at(self.bytes, 48) as u32
+    }
+
+    /// Whether the source was read as strict code by a flag.
+    pub fn strict(&self) -> bool
+        ensures { result ≡ (module_of self.now).strict }
+    {
+        self.bytes[12] == 1
+    }
+
+    /// The place in the file at which the source starts.
+    pub fn source_at(&self) -> usize
+        ensures { result ≡ source_at self.now }
+    {
+        sections::source_at(self.bytes)
+    }
+
+    /// The source.
+    pub fn source(&self) -> &'a [u8]
+        ensures shown { result.now ≡ (module_of self.now).source }
+        ensures slice { result.now ≡ part self.now (source_at self.now) (source_length self.now) }
+    {
+        part(self.bytes, self.source_at(), u64_at(self.bytes, 104) as usize)
+    }
+
+    /// The function with that number.
+    #[tactic(auto, using(crate::proofs::Sound::sound, crate::proofs::Shown::function_count_is, crate::proofs::Shown::function_shown))]
+    pub fn function(&self, k: u32) -> FunctionView<'a>
+        requires { k < length (module_of self.now).functions }
+        ensures shown { slice_get (module_of self.now).functions k ≡ Some (record { kind = result.kind; length = result.length; registers = result.registers; code = option_map (λ code. code.now) result.code }) }
+        // The code is the bytes of the code section that the header names.
+        ensures slice { IfSome result.code (λ code. code.now ≡ code_bytes self.now (header_at k)) }
+    {
+        let at = FIRST_HEADER + 16 * k as usize;
+        FunctionView {
+            kind: FunctionKind::of_number(self.bytes[at] / 4),
+            length: self.bytes[at + 1],
+            registers: u16_at(self.bytes, at + 2) as u64,
+            code: code(self.bytes, at),
+        }
+    }
+
+    /// The text with that id, None exactly past the table.
+    #[tactic(auto, using(crate::proofs::Sound::sound, crate::proofs::Shown::text_shown, crate::proofs::Shown::text_past))]
+    pub fn string(&self, id: u64) -> Option<StringView<'a>>
+        ensures shown { result ≡ slice_get (module_of self.now).texts id }
+        // Its units are read from the bytes of the string storage that the entry names.
+        ensures slice { IfSome result (λ text. text ≡ text_of self.now (field 4 self.now (strings_at self.now + 4 * id))) }
+    {
+        if id >= sections::string_count(self.bytes) {
+            return None;
+        }
+        let entry = Entry::at(self.bytes, sections::strings_at(self.bytes) + 4 * id as usize);
+        let place = sections::storage_at(self.bytes) + entry.place();
+        let text = part(self.bytes, place, entry.size());
+        Some(StringView::of_bytes(entry.is_wide(), text))
     }
 }

@@ -9,9 +9,12 @@ mod numbers;
 mod rules;
 mod sections;
 mod string;
+mod texts;
+mod writing;
 
 pub use file::{File, has_magic};
 pub use function::FunctionView;
 pub use kind::FunctionKind;
 pub use malformed::Malformed;
 pub use string::StringView;
+pub use texts::Texts;

@@ -2,9 +2,8 @@
 
 ghost use Rattle.std.specs.Prelude.{◌≡◌, ◌↔◌, IsTrue, [], length, slice_get};
 
-use std::marker::Model;
-
 use crate::numbers::u16_at;
+use std::marker::Model;
 
 /// A text of a file: contracts see the list of its UTF-16 units.
 #[derive(Clone, Debug, Drop)]

@@ -34,8 +34,5 @@ pub(crate) fn code_fault(bytes: &[u8]) -> Option<usize>
 {
     let place = u32_at(bytes, FIRST_HEADER + 4) as u64;
     let size = u16_at(bytes, FIRST_HEADER + 8) as u64;
-    unless(
-        0 < size && place + size <= u64_at(bytes, 88),
-        FIRST_HEADER,
-    )
+    unless(0 < size && place + size <= u64_at(bytes, 88), FIRST_HEADER)
 }

@@ -65,10 +65,7 @@ fn is_kept(bytes: &[u8], next: usize, entry: Entry) -> bool
     let size = entry.size();
     entry.place() == next
         && next + size <= u64_at(bytes, 96) as usize
-        && is_text(
-            entry.is_wide(),
-            part(bytes, storage_at(bytes) + next, size),
-        )
+        && is_text(entry.is_wide(), part(bytes, storage_at(bytes) + next, size))
 }
 
 pub(crate) fn texts_fault(bytes: &[u8]) -> Option<usize>
@@ -85,8 +82,5 @@ pub(crate) fn texts_fault(bytes: &[u8]) -> Option<usize>
         }
         next += entry.size();
     }
-    unless(
-        next == u64_at(bytes, 96) as usize,
-        storage_at(bytes),
-    )
+    unless(next == u64_at(bytes, 96) as usize, storage_at(bytes))
 }

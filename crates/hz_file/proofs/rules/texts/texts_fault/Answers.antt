@@ -7,10 +7,11 @@ pub loop-id-preserved : goal.loop-id-preserved
 loop-id-preserved c =
     let bytes = c.args.bytes.now in
     let id = c.loop-id.id in
-    let kept = sym c.is_kept.ensures ∙ c.if-not-is_kept.false in
-    (rw (← c.size-next.ensures) at (kept_fits bytes c.loop-id.next c.at-entry.result.word kept).1,
-    sym (stray_more bytes (string_count bytes - id) (string_count bytes - (id + 1)) (strings_at bytes + 4 * id) (strings_at bytes + 4 * (id + 1)) c.loop-id.next (c.loop-id.next + c.size-next.result) c.at-entry.result.word (omega arith) (omega arith) (grind arith) (omega arith) kept)
-    ∙ c.loop-id.invariant.1)
+    let kept = sym c.is_kept.ensures ∙ c.if-not-is_kept.false in (
+      rw (← c.size-next.ensures) at (kept_fits bytes c.loop-id.next c.at-entry.result.word kept).1,
+      sym (stray_more bytes (string_count bytes - id) (string_count bytes - (id + 1)) (strings_at bytes + 4 * id) (strings_at bytes + 4 * (id + 1)) c.loop-id.next (c.loop-id.next + c.size-next.result) c.at-entry.result.word (omega arith) (omega arith) (grind arith) (omega arith) kept)
+          ∙ c.loop-id.invariant.1,
+    )
 
 pub returns : goal.returns
 returns c =
