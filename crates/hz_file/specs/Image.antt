@@ -19,10 +19,10 @@ pub record Program : Type 0 where
 abbrev pub IsShortText : List ℕ → Type 0
 IsShortText text = (length text ≤ 254) × All (λ unit. unit < 128) text
 
-abbrev pub number : ℕ → ℕ → List ℕ
+unfoldable pub number : ℕ → ℕ → List ℕ
 number n x = little_bytes n x
 
-abbrev pub zeros : ℕ → List ℕ
+unfoldable pub zeros : ℕ → List ℕ
 zeros n = replicate n 0
 
 -- the header, field by field

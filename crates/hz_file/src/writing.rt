@@ -1,9 +1,9 @@
 //! The file of one script.
 
-ghost use Rattle.std.specs.Prelude.{◌≡◌, ◌+◌, ◌*◌, ◌^◌, ◌<◌, ◌≤◌, [], ◌∷◌, ◌++◌, length, OnOk, IfOk, All, None};
+ghost use Rattle.std.specs.Prelude.{◌≡◌, ◌+◌, ◌*◌, ◌^◌, ◌<◌, ◌≤◌, if◌then◌else◌, [], ◌∷◌, ◌++◌, length, OnOk, IfOk, All, None};
 ghost use Rattle.std.specs.List.{concat};
 ghost use Rattle.hz_file.specs.Image.{number, numbers, header, function_header, entry_words, image, pieces, size_of, IsShortText, script_module};
-ghost use Rattle.hz_file.specs.Layout.{HasMagic};
+ghost use Rattle.hz_file.specs.Layout.{HasMagic, magic};
 ghost use Rattle.hz_file.specs.Module.{module_of};
 ghost use Rattle.hz_file.specs.Opening.{rule};
 
@@ -22,6 +22,7 @@ fn put(bytes: &mut Vec<u8>, more: &[u8]) -> Result<(), Memory>
     Ok(())
 }
 
+#[tactic(auto, unfolding(crate::specs::Image::number))]
 fn put_u16(bytes: &mut Vec<u8>, n: u16) -> Result<(), Memory>
     ensures { OnOk result (bytes.new.items ≡ bytes.old.items ++ number 2 n) }
 {
@@ -30,6 +31,7 @@ fn put_u16(bytes: &mut Vec<u8>, n: u16) -> Result<(), Memory>
     put(bytes, &number)
 }
 
+#[tactic(auto, unfolding(crate::specs::Image::number))]
 fn put_u32(bytes: &mut Vec<u8>, n: u32) -> Result<(), Memory>
     ensures { OnOk result (bytes.new.items ≡ bytes.old.items ++ number 4 n) }
 {
@@ -38,6 +40,7 @@ fn put_u32(bytes: &mut Vec<u8>, n: u32) -> Result<(), Memory>
     put(bytes, &number)
 }
 
+#[tactic(auto, unfolding(crate::specs::Image::number))]
 fn put_u64(bytes: &mut Vec<u8>, n: u64) -> Result<(), Memory>
     ensures { OnOk result (bytes.new.items ≡ bytes.old.items ++ number 8 n) }
 {
@@ -69,14 +72,22 @@ struct Lengths {
     storage: u64,
 }
 
-/// The header of the file.
-fn put_header(bytes: &mut Vec<u8>, strict: bool, source: &[u8], lengths: Lengths) -> Result<(), Memory>
-    ensures { OnOk result (bytes.new.items ≡ bytes.old.items ++ concat (header strict lengths.size source.now lengths.texts lengths.code lengths.storage)) }
+/// What stands in the header before the hash of the source.
+fn put_front(bytes: &mut Vec<u8>, strict: bool, size: u64) -> Result<(), Memory>
+    ensures { OnOk result (bytes.new.items ≡ bytes.old.items ++ (magic ++ (number 4 1 ++ (number 4 (if strict then 1 else 0) ++ number 8 size)))) }
 {
     put(bytes, &MAGIC)?;
     put_u32(bytes, 1)?;
     put_u32(bytes, strict as u32)?;
-    put_u64(bytes, lengths.size)?;
+    put_u64(bytes, size)
+}
+
+/// The header of the file.
+#[tactic(auto, unfolding(crate::specs::Image::zeros))]
+fn put_header(bytes: &mut Vec<u8>, strict: bool, source: &[u8], lengths: Lengths) -> Result<(), Memory>
+    ensures { OnOk result (bytes.new.items ≡ bytes.old.items ++ concat (header strict lengths.size source.now lengths.texts lengths.code lengths.storage)) }
+{
+    put_front(bytes, strict, lengths.size)?;
     put(bytes, &Sha1::digest(source))?;
     put(bytes, &[0; 4])?;
     let Lengths { texts, code, storage, .. } = lengths;
@@ -92,7 +103,9 @@ fn put_function_header(bytes: &mut Vec<u8>, registers: u16, code: u16) -> Result
     put_u16(bytes, registers)?;
     put_u32(bytes, 0)?;
     put_u16(bytes, code)?;
-    put(bytes, &[0; 6])
+    put_u16(bytes, 0)?;
+    put_u16(bytes, 0)?;
+    put_u16(bytes, 0)
 }
 
 /// How many units the texts have together.
