@@ -1,4 +1,5 @@
 pub mod Fields
+pub mod Law
 pub mod Pieces
 pub mod Shown
 pub mod Sound

@@ -18,3 +18,4 @@ pub use kind::FunctionKind;
 pub use malformed::Malformed;
 pub use string::StringView;
 pub use texts::Texts;
+pub use writing::write_small;

@@ -2,7 +2,7 @@
 
 ghost use Rattle.std.specs.Prelude.{◌≡◌, ◌+◌, ◌*◌, ◌^◌, ◌<◌, ◌≤◌, if◌then◌else◌, [], ◌∷◌, ◌++◌, length, OnOk, IfOk, All, None};
 ghost use Rattle.std.specs.List.{concat};
-ghost use Rattle.hz_file.specs.Image.{number, numbers, header, function_header, entry_words, image, pieces, size_of, IsShortText, script_module};
+ghost use Rattle.hz_file.specs.Image.{IsSmall, number, numbers, header, function_header, entry_words, image, pieces, size_of, IsShortText, script_module};
 ghost use Rattle.hz_file.specs.Layout.{HasMagic, magic};
 ghost use Rattle.hz_file.specs.Module.{module_of};
 ghost use Rattle.hz_file.specs.Opening.{rule};
@@ -155,4 +155,46 @@ fn put_storage(bytes: &mut Vec<u8>, texts: &Texts) -> Result<(), Memory>
         put_text(bytes, text)?;
     }
     Ok(())
+}
+
+/// The file's bytes.
+fn spell(alloc: Global, strict: bool, source: &[u8], texts: &Texts, registers: u16, code: &[u8]) -> Result<Vec<u8>, Memory>
+    requires { IsSmall (record { strict = strict; source = source.now; texts = texts.now; registers = registers; code = code.now }) }
+    ensures { IfOk result (λ bytes. bytes.items ≡ image (record { strict = strict; source = source.now; texts = texts.now; registers = registers; code = code.now })) }
+{
+    let storage = units_in(texts);
+    let size = 164 + 4 * texts.len() + storage + code.len() + source.len();
+    let lengths = Lengths {
+        size: size as u64,
+        texts: texts.len() as u64,
+        code: code.len() as u64,
+        storage: storage as u64,
+    };
+    let mut bytes = Vec::with_capacity(alloc, size)?;
+    put_header(&mut bytes, strict, source, lengths)?;
+    put_function_header(&mut bytes, registers, code.len() as u16)?;
+    put_entries(&mut bytes, texts)?;
+    put_storage(&mut bytes, texts)?;
+    put(&mut bytes, code)?;
+    put(&mut bytes, source)?;
+    let footer = Sha1::digest(&bytes);
+    put(&mut bytes, &footer)?;
+    Ok(bytes)
+}
+
+/// The file of one script, with this flag, source, texts by id, number of registers and code.
+pub fn write_small(alloc: Global, strict: bool, source: &[u8], texts: &Texts, registers: u16, code: &[u8]) -> Result<Vec<u8>, Memory>
+    requires ascii { All (λ byte. byte < 128) source.now }
+    requires source { length source.now ≤ 4095 }
+    requires texts { length texts.now ≤ 65536 }
+    requires short { All IsShortText texts.now }
+    requires storage { length (concat texts.now) ≤ 8388607 }
+    requires code { 1 ≤ length code.now }
+    requires code_fits { length code.now ≤ 65535 }
+    ensures bytes { IfOk result (λ bytes. bytes.items ≡ image (record { strict = strict; source = source.now; texts = texts.now; registers = registers; code = code.now })) }
+    ensures magic { IfOk result (λ bytes. HasMagic bytes.items) }
+    ensures opens { IfOk result (λ bytes. rule bytes.items ≡ None) }
+    ensures holds { IfOk result (λ bytes. module_of bytes.items ≡ script_module (record { strict = strict; source = source.now; texts = texts.now; registers = registers; code = code.now })) }
+{
+    spell(alloc, strict, source, texts, registers, code)
 }
