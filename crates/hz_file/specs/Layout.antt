@@ -22,7 +22,7 @@ abbrev pub edition : List ℕ → ℕ
 edition bytes = field 4 bytes 8
 
 abbrev pub strict_flag : List ℕ → Bool
-strict_flag bytes = nat_eq (slice_index bytes 12) 1
+strict_flag bytes = nat_eq (slice_index bytes 12 % 2) 1
 
 abbrev pub file_length : List ℕ → ℕ
 file_length bytes = field 8 bytes 16

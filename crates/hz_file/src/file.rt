@@ -25,7 +25,7 @@ pub fn has_magic(bytes: &[u8]) -> bool
 }
 
 /// A bytecode file that breaks no rule. Contracts see its bytes; `module_of` says what they hold.
-#[derive(Clone, Drop)]
+#[derive(Clone, Debug, Drop)]
 pub struct File<'a> {
     bytes: &'a [u8],
 }
@@ -103,7 +103,7 @@ impl<'a> File<'a> {
     pub fn strict(&self) -> bool
         ensures { result ≡ (module_of self.now).strict }
     {
-        self.bytes[12] == 1
+        self.bytes[12] % 2 == 1
     }
 
     /// The place in the file at which the source starts.
@@ -118,7 +118,11 @@ impl<'a> File<'a> {
         ensures shown { result.now ≡ (module_of self.now).source }
         ensures slice { result.now ≡ part self.now (source_at self.now) (source_length self.now) }
     {
-        part(self.bytes, self.source_at(), u64_at(self.bytes, 104) as usize)
+        part(
+            self.bytes,
+            self.source_at(),
+            u64_at(self.bytes, 104) as usize,
+        )
     }
 
     /// The function with that number.
@@ -148,7 +152,10 @@ impl<'a> File<'a> {
         if id >= sections::string_count(self.bytes) {
             return None;
         }
-        let entry = Entry::at(self.bytes, sections::strings_at(self.bytes) + 4 * id as usize);
+        let entry = Entry::at(
+            self.bytes,
+            sections::strings_at(self.bytes) + 4 * id as usize,
+        );
         let place = sections::storage_at(self.bytes) + entry.place();
         let text = part(self.bytes, place, entry.size());
         Some(StringView::of_bytes(entry.is_wide(), text))

@@ -1,6 +1,7 @@
 //! The bytecode file.
 #![tactic(auto)]
 
+mod appending;
 mod file;
 mod function;
 mod kind;
