@@ -130,6 +130,9 @@ entries_from (suc n) at bytes = field 4 bytes at ∷ entries_from n (at + 4) byt
 abbrev pub entries : List ℕ → List ℕ
 entries bytes = entries_from (string_count bytes) (strings_at bytes) bytes
 
+abbrev pub entry_at : List ℕ → ℕ → ℕ
+entry_at bytes id = field 4 bytes (strings_at bytes + 4 * id)
+
 -- the bytes of an entry's text
 abbrev pub text_bytes : List ℕ → ℕ → List ℕ
 text_bytes bytes entry = part bytes (storage_at bytes + entry_place entry) (entry_size entry)

@@ -27,13 +27,17 @@ kind_of n =
 abbrev pub code_bytes : List ℕ → ℕ → List ℕ
 code_bytes bytes at = part bytes (code_at bytes + code_place bytes at) (code_size bytes at)
 
+abbrev pub code_of : List ℕ → ℕ → Option (List ℕ)
+code_of bytes at = if has_code bytes at then Some (code_bytes bytes at) else None
+
+abbrev pub shown_function : FunctionKind → ℕ → ℕ → Option (List ℕ) → ModuleFunction
+shown_function kind length registers code =
+    record { kind = kind; length = length; registers = registers; code = code }
+
 abbrev pub function_at : List ℕ → ℕ → ModuleFunction
-function_at bytes at = record {
-  kind = kind_of (kind_number bytes at);
-  length = slice_index bytes (at + 1);
-  registers = register_count bytes at;
-  code = if has_code bytes at then Some (code_bytes bytes at) else None;
-}
+function_at bytes at =
+    shown_function (kind_of (kind_number bytes at)) (slice_index bytes (at + 1)) (register_count bytes at)
+    (code_of bytes at)
 
 -- the n functions with headers from a place on
 abbrev pub functions_from : ℕ → ℕ → List ℕ → List ModuleFunction

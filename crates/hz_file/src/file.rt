@@ -1,9 +1,9 @@
 //! A file that breaks no rule, and what it holds.
 
-ghost use Rattle.std.specs.Prelude.{◌≡◌, ◌↔◌, ◌<◌, ◌≤◌, ◌+◌, ◌*◌, if◌then◌else◌, IsTrue, Some, None, length, map, slice_get, option_map, IfSome, MatchResult, MatchOption, Ok, Err};
-ghost use Rattle.hz_file.specs.Layout.{HasMagic, Fills, field, part, function_count, strings_at, source_at, source_length, code_at, code_place, code_size, code_length, has_code, header_at};
-ghost use Rattle.hz_file.specs.Module.{module_of, code_bytes, text_of};
-ghost use Rattle.hz_file.specs.Opening.{rule, fails};
+ghost use Rattle.std.specs.Prelude.{◌≡◌, ◌↔◌, ◌<◌, ◌≤◌, ◌+◌, IsTrue, IsSome, Some, None, length, slice_get, option_map, IfSome, MatchResult, MatchOption, Ok, Err};
+ghost use Rattle.hz_file.specs.Layout.{Fills, HasMagic, code_length, code_place, code_size, entry_at, header_at, part, source_at, source_length};
+ghost use Rattle.hz_file.specs.Module.{code_bytes, code_of, module_of, shown_function, text_of};
+ghost use Rattle.hz_file.specs.Opening.{rule};
 
 use crate::function::FunctionView;
 use crate::kind::FunctionKind;
@@ -78,7 +78,7 @@ fn code(bytes: &[u8], at: usize) -> Option<&[u8]>
     requires fills { Fills bytes.now }
     requires header { at + 16 ≤ length bytes.now }
     requires within { code_place bytes.now at + code_size bytes.now at ≤ code_length bytes.now }
-    ensures { option_map (λ code. code.now) result ≡ (if has_code bytes.now at then Some (code_bytes bytes.now at) else None) }
+    ensures { option_map (λ code. code.now) result ≡ code_of bytes.now at }
 {
     if bytes[at] % 2 != 1 {
         return None;
@@ -87,33 +87,33 @@ fn code(bytes: &[u8], at: usize) -> Option<&[u8]>
     Some(part(bytes, place, u16_at(bytes, at + 8) as usize))
 }
 
-/// What the file holds. No call takes memory or copies.
+/// What the file holds. No call takes memory, and none copies bytes.
 #[tactic(auto, using(crate::proofs::Sound::sound), unfolding(crate::specs::Module::module_of))]
 impl<'a> File<'a> {
-    /// The number of functions.
+    /// The number of functions, of which function 0 is the script.
     #[tactic(auto, using(crate::proofs::Sound::sound, crate::proofs::Shown::function_count_is))]
     pub fn count(&self) -> u32
         ensures shown { result ≡ length (module_of self.now).functions }
-        ensures field { result ≡ function_count self.now }
+        ensures some { 0 < result }
     {
         u64_at(self.bytes, 48) as u32
     }
 
-    /// Whether the source was read as strict code by a flag.
+    /// Whether the flag was set by which the source is read as strict code.
     pub fn strict(&self) -> bool
         ensures { result ≡ (module_of self.now).strict }
     {
         self.bytes[12] % 2 == 1
     }
 
-    /// The place in the file at which the source starts.
+    /// The place in the file, in bytes, at which the source starts.
     pub fn source_at(&self) -> usize
         ensures { result ≡ source_at self.now }
     {
         sections::source_at(self.bytes)
     }
 
-    /// The source.
+    /// The bytes of the source.
     pub fn source(&self) -> &'a [u8]
         ensures shown { result.now ≡ (module_of self.now).source }
         ensures slice { result.now ≡ part self.now (source_at self.now) (source_length self.now) }
@@ -129,9 +129,12 @@ impl<'a> File<'a> {
     #[tactic(auto, using(crate::proofs::Sound::sound, crate::proofs::Shown::function_count_is, crate::proofs::Shown::function_shown))]
     pub fn function(&self, k: u32) -> FunctionView<'a>
         requires { k < length (module_of self.now).functions }
-        ensures shown { slice_get (module_of self.now).functions k ≡ Some (record { kind = result.kind; length = result.length; registers = result.registers; code = option_map (λ code. code.now) result.code }) }
-        // The code is the bytes of the code section that the header names.
+        ensures shown { slice_get (module_of self.now).functions k ≡ Some (shown_function result.kind result.length result.registers (option_map (λ code. code.now) result.code)) }
+
+        // The code is the part of the file's code section that the header names. A stub has none, and no
+        // file with a stub is opened yet.
         ensures slice { IfSome result.code (λ code. code.now ≡ code_bytes self.now (header_at k)) }
+        ensures code { IsSome result.code }
     {
         let at = FIRST_HEADER + 16 * k as usize;
         FunctionView {
@@ -146,16 +149,15 @@ impl<'a> File<'a> {
     #[tactic(auto, using(crate::proofs::Sound::sound, crate::proofs::Shown::text_shown, crate::proofs::Shown::text_past))]
     pub fn string(&self, id: u64) -> Option<StringView<'a>>
         ensures shown { result ≡ slice_get (module_of self.now).texts id }
-        // Its units are read from the bytes of the string storage that the entry names.
-        ensures slice { IfSome result (λ text. text ≡ text_of self.now (field 4 self.now (strings_at self.now + 4 * id))) }
+
+        // Its units are read from the part of the file's string storage that the entry names.
+        ensures slice { IfSome result (λ text. text ≡ text_of self.now (entry_at self.now id)) }
     {
         if id >= sections::string_count(self.bytes) {
             return None;
         }
-        let entry = Entry::at(
-            self.bytes,
-            sections::strings_at(self.bytes) + 4 * id as usize,
-        );
+        let at = sections::strings_at(self.bytes) + 4 * id as usize;
+        let entry = Entry::at(self.bytes, at);
         let place = sections::storage_at(self.bytes) + entry.place();
         let text = part(self.bytes, place, entry.size());
         Some(StringView::of_bytes(entry.is_wide(), text))
