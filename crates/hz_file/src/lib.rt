@@ -10,6 +10,8 @@ mod numbers;
 mod rules;
 mod sections;
 mod string;
+#[cfg(test)]
+mod tests;
 mod texts;
 mod writing;
 
