@@ -6,6 +6,7 @@ use data::{SCRIPT, WIDE};
 use hz_value::Units;
 use reading::first_fault;
 use sha1::Sha1;
+use std::process::Abort;
 use std::test::Fail;
 
 /// What `File::open` finds broken.
@@ -96,25 +97,37 @@ fn a_file_of_another_program_is_shown(rt: HostRuntime) -> Result<(), Fail> {
     Ok(())
 }
 
-#[test]
-fn each_changed_byte_is_found(rt: HostRuntime) {
-    for at in 8..WIDE.len() {
+/// Each byte behind the magic is changed to each value in turn.
+fn finds_each_change<const N: usize>(rt: &impl Abort, file: &[u8; N]) {
+    for at in 8..N {
         for value in 0..=255 {
-            let mut bytes = WIDE;
+            let mut bytes = *file;
             put(&mut bytes, at, value);
-            assert_eq!(rt; fault(&bytes), first_fault(&bytes), "at {at}");
+            assert_eq!(rt; fault(&bytes), first_fault(&bytes), "{value} at {at}");
             mend_footer(&mut bytes);
-            assert_eq!(rt; fault(&bytes), first_fault(&bytes), "at {at}");
+            assert_eq!(rt;
+                fault(&bytes),
+                first_fault(&bytes),
+                "{value} at {at}, mended"
+            );
         }
     }
 }
 
 #[test]
+fn each_changed_byte_is_found(rt: HostRuntime) {
+    finds_each_change(&rt, &SCRIPT);
+    finds_each_change(&rt, &WIDE);
+}
+
+#[test]
 fn each_front_is_found_too_short(rt: HostRuntime) {
-    for len in 8..WIDE.len() {
-        let front = &WIDE[..len];
-        assert_eq!(rt; fault(front), first_fault(front), "{len} bytes");
-        assert!(rt; fault(front).is_some());
+    for file in [SCRIPT.as_slice(), WIDE.as_slice()] {
+        for len in 8..file.len() {
+            let front = &file[..len];
+            assert!(rt; fault(front).is_some(), "{len} bytes");
+            assert_eq!(rt; fault(front), first_fault(front), "{len} bytes");
+        }
     }
 }
 
@@ -126,21 +139,27 @@ fn random(seed: &mut u64) -> usize {
     (*seed >> 33) as usize
 }
 
-#[test]
-fn random_changes_are_found(rt: HostRuntime) {
+/// Up to four bytes behind the magic are changed at once; in every second round the footer is right.
+fn finds_random_changes<const N: usize>(rt: &impl Abort, file: &[u8; N], rounds: u32) {
     let mut seed = 1;
-    for round in 0..10_000 {
-        let mut bytes = WIDE;
+    for round in 0..rounds {
+        let mut bytes = *file;
         for _ in 0..1 + random(&mut seed) % 4 {
-            let at = 8 + random(&mut seed) % 192;
+            let at = random(&mut seed) % 192;
             let value = random(&mut seed) % 256;
-            put(&mut bytes, at, value as u8);
+            put(&mut bytes, 8 + at, value as u8);
         }
         if round % 2 == 0 {
             mend_footer(&mut bytes);
         }
         assert_eq!(rt; fault(&bytes), first_fault(&bytes), "round {round}");
     }
+}
+
+#[test]
+fn random_changes_are_found(rt: HostRuntime) {
+    finds_random_changes(&rt, &SCRIPT, 10_000);
+    finds_random_changes(&rt, &WIDE, 10_000);
 }
 
 #[test]
@@ -153,5 +172,16 @@ fn texts_are_kept_by_their_ids(rt: HostRuntime) -> Result<(), Fail> {
     assert_eq!(rt; texts.len(), 2);
     assert_eq!(rt; texts.at(0).map_or(0, |text| text.len()), 2);
     assert!(rt; texts.at(2).is_none());
+    Ok(())
+}
+
+#[test]
+fn a_view_is_used_while_its_bytes_live(rt: HostRuntime) -> Result<(), Fail> {
+    let bytes = Vec::from_slice(rt.alloc(), &WIDE)?;
+    assert!(rt; has_magic(&bytes));
+    let source = File::open(&bytes)?.source();
+    let len = source.len();
+    drop(bytes);
+    assert_eq!(rt; len, 9);
     Ok(())
 }
