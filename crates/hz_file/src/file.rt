@@ -1,6 +1,7 @@
 //! A file that breaks no rule, and what it holds.
 
-ghost use Rattle.std.specs.Prelude.{◌≡◌, ◌↔◌, ◌<◌, ◌≤◌, ◌+◌, IsTrue, IsSome, Some, None, length, slice_get, option_map, IfSome, MatchResult, MatchOption, Ok, Err};
+ghost use Rattle.std.specs.Prelude.{◌≡◌, ◌↔◌, ◌<◌, ◌≤◌, ◌+◌, IsTrue, Some, None, length, slice_get, IfSome, MatchResult, MatchOption, Ok, Err};
+ghost use Rattle.std.specs.Option.{option_copied};
 ghost use Rattle.hz_file.specs.Layout.{Fills, HasMagic, code_length, code_place, code_size, entry_at, header_at, part, source_at, source_length};
 ghost use Rattle.hz_file.specs.Module.{code_bytes, code_of, module_of, shown_function, text_of};
 ghost use Rattle.hz_file.specs.Opening.{rule};
@@ -52,12 +53,13 @@ fn check(rule: u8, fault: Option<usize>) -> Result<(), Malformed>
 }
 
 impl<'a> File<'a> {
-    /// Opens a file, whose eight first bytes are the magic: `Malformed` is the first rule that fails,
-    /// with its place.
+    /// Opens a file; the magic stands in front (`has_magic` tells). `Malformed` is the first rule that
+    /// fails, with its place. No memory is taken.
     #[tactic(auto, unfolding(crate::specs::Opening::rule))]
     pub fn open(bytes: &'a [u8]) -> Result<File<'a>, Malformed>
         requires { HasMagic bytes.now }
-        ensures { MatchResult result (λ file. (rule bytes.entry.now ≡ None) × (file ≡ bytes.entry.now)) (λ fault. rule bytes.entry.now ≡ Some fault) }
+        ensures { MatchResult result (λ file. (rule bytes.entry.now ≡ None) × (file ≡ bytes.entry.now))
+            (λ fault. rule bytes.entry.now ≡ Some fault) }
     {
         check(1, rules::size_fault(bytes))?;
         check(2, rules::edition_fault(bytes))?;
@@ -78,7 +80,7 @@ fn code(bytes: &[u8], at: usize) -> Option<&[u8]>
     requires fills { Fills bytes.now }
     requires header { at + 16 ≤ length bytes.now }
     requires within { code_place bytes.now at + code_size bytes.now at ≤ code_length bytes.now }
-    ensures { option_map (λ code. code.now) result ≡ code_of bytes.now at }
+    ensures { option_copied result ≡ code_of bytes.now at }
 {
     if bytes[at] % 2 != 1 {
         return None;
@@ -129,12 +131,12 @@ impl<'a> File<'a> {
     #[tactic(auto, using(crate::proofs::Sound::sound, crate::proofs::Shown::function_count_is, crate::proofs::Shown::function_shown))]
     pub fn function(&self, k: u32) -> FunctionView<'a>
         requires { k < length (module_of self.now).functions }
-        ensures shown { slice_get (module_of self.now).functions k ≡ Some (shown_function result.kind result.length result.registers (option_map (λ code. code.now) result.code)) }
+        ensures shown { slice_get (module_of self.now).functions k
+            ≡ Some (shown_function result.kind result.length result.registers (option_copied result.code)) }
 
-        // The code is the part of the file's code section that the header names. A stub has none, and no
-        // file with a stub is opened yet.
-        ensures slice { IfSome result.code (λ code. code.now ≡ code_bytes self.now (header_at k)) }
-        ensures code { IsSome result.code }
+        // The code is the part of the file's code section that the header names. A stub has none, but no
+        // file with a stub opens yet.
+        ensures slice { option_copied result.code ≡ Some (code_bytes self.now (header_at k)) }
     {
         let at = FIRST_HEADER + 16 * k as usize;
         FunctionView {

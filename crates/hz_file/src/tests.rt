@@ -73,7 +73,9 @@ fn has_units(text: Option<StringView<'_>>, units: &[u16]) -> bool {
             return false;
         }
     }
-    text.len() == units.len() as u64 && text.unit(text.len()).is_none()
+    text.len() == units.len() as u64
+        && text.is_empty() == units.is_empty()
+        && text.unit(text.len()).is_none()
 }
 
 #[test]
@@ -172,6 +174,7 @@ fn texts_are_kept_by_their_ids(rt: HostRuntime) -> Result<(), Fail> {
     assert_eq!(rt; texts.len(), 2);
     assert_eq!(rt; texts.at(0).map_or(0, |text| text.len()), 2);
     assert!(rt; texts.at(2).is_none());
+    assert_eq!(rt; texts.as_slice().len(), 2);
     Ok(())
 }
 

@@ -29,7 +29,9 @@ struct Lengths {
 
 /// What stands in the header before the hash of the source.
 fn put_front(bytes: &mut Vec<u8>, strict: bool, size: u64) -> Result<(), Memory>
-    ensures { OnOk result (bytes.new.items ≡ bytes.old.items ++ (magic ++ (number 4 1 ++ (number 4 (if strict then 1 else 0) ++ number 8 size)))) }
+    ensures { let flags = if strict then 1 else 0 in
+        let front = magic ++ (number 4 1 ++ (number 4 flags ++ number 8 size)) in
+        OnOk result (bytes.new.items ≡ bytes.old.items ++ front) }
 {
     put(bytes, &MAGIC)?;
     put_u32(bytes, 1)?;
@@ -45,7 +47,8 @@ fn put_header(
     source: &[u8],
     lengths: Lengths,
 ) -> Result<(), Memory>
-    ensures { OnOk result (bytes.new.items ≡ bytes.old.items ++ concat (header strict lengths.size source.now lengths.texts lengths.code lengths.storage)) }
+    ensures { let of = header strict lengths.size source.now lengths.texts lengths.code lengths.storage in
+        OnOk result (bytes.new.items ≡ bytes.old.items ++ concat of) }
 {
     put_front(bytes, strict, lengths.size)?;
     put(bytes, &Sha1::digest(source))?;
@@ -124,7 +127,8 @@ fn encode(
     code: &[u8],
 ) -> Result<Vec<u8>, Memory>
     requires { IsSmall (program strict source.now texts.now registers code.now) }
-    ensures { IfOk result (λ file. file.items ≡ image (program strict source.now texts.now registers code.now)) }
+    ensures { let written = program strict source.now texts.now registers code.now in
+        IfOk result (λ file. file.items ≡ image written) }
 {
     let storage = units_in(texts);
     let size = 164 + 4 * texts.len() + storage + code.len() + source.len();
@@ -146,9 +150,10 @@ fn encode(
     Ok(bytes)
 }
 
-/// The file of a script that is its only function: with this flag, this source, these texts by id, and
-/// for the script, of length 0, this number of registers and this code, without handlers. The source is
-/// ASCII, and each text has at most 254 units, all below 128. `Memory` comes where memory runs out.
+/// The file of a script that is its only function: with this flag, this source, these texts by their
+/// ids, and for the script, of length 0, this number of registers and this code, without handlers. The
+/// source is ASCII; each text has at most 254 units, all below 128. `Memory` comes where memory runs
+/// out.
 pub fn write_small(
     alloc: Global,
     strict: bool,
@@ -164,12 +169,14 @@ pub fn write_small(
     requires storage { length (concat texts.now) ≤ 8388607 }
     requires code { 1 ≤ length code.now }
     requires code_fits { length code.now ≤ 65535 }
-    ensures bytes { IfOk result (λ file. file.items ≡ image (program strict source.now texts.now registers code.now)) }
+    ensures bytes { let written = program strict source.now texts.now registers code.now in
+        IfOk result (λ file. file.items ≡ image written) }
 
     // `File::open` opens it, and what it then shows is what was written.
     ensures magic { IfOk result (λ file. HasMagic file.items) }
     ensures opens { IfOk result (λ file. rule file.items ≡ None) }
-    ensures holds { IfOk result (λ file. module_of file.items ≡ script_module (program strict source.now texts.now registers code.now)) }
+    ensures holds { let written = program strict source.now texts.now registers code.now in
+        IfOk result (λ file. module_of file.items ≡ script_module written) }
 {
     encode(alloc, strict, source, texts, registers, code)
 }

@@ -2,7 +2,7 @@
 
 ghost use Rattle.std.specs.Prelude.{◌≡◌, ℕ, ◌+◌, ◌^◌, ◌<◌, ◌≤◌, length, MatchOption};
 ghost use Rattle.hz_file.specs.Layout.{footer_at};
-ghost use Rattle.hz_file.specs.Rules.{size_rule, edition_rule, zero_rule, length_rule, sections_rule, first_nonzero};
+ghost use Rattle.hz_file.specs.Rules.{size_rule, edition_rule, zero_rule, length_rule, sections_rule, first_nonzero, unless};
 
 use crate::numbers::{part, u32_at, u64_at};
 
@@ -13,7 +13,7 @@ const MOST: usize = 1_099_511_627_776;
 
 /// The place, unless the test holds.
 pub(super) fn unless(test: bool, at: usize) -> Option<usize>
-    ensures { result ≡ Rattle.hz_file.specs.Rules.unless test at }
+    ensures { result ≡ unless test at }
 {
     if test { None } else { Some(at) }
 }
