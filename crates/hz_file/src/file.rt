@@ -10,9 +10,9 @@ use crate::function::FunctionView;
 use crate::kind::FunctionKind;
 use crate::malformed::Malformed;
 use crate::numbers::{part, u16_at, u32_at, u64_at};
-use crate::rules;
-use crate::sections::{self, Entry, FIRST_HEADER};
+use crate::sections::{self, Entry};
 use crate::string::StringView;
+use crate::{layout, rules};
 use std::marker::Model;
 
 /// The eight bytes in front of every file.
@@ -98,14 +98,14 @@ impl<'a> File<'a> {
         ensures shown { result ≡ length (module_of self.now).functions }
         ensures some { 0 < result }
     {
-        u64_at(self.bytes, 48) as u32
+        u64_at(self.bytes, layout::FUNCTION_COUNT) as u32
     }
 
     /// Whether the flag was set by which the source is read as strict code.
     pub fn strict(&self) -> bool
         ensures { result ≡ (module_of self.now).strict }
     {
-        self.bytes[12] % 2 == 1
+        self.bytes[layout::FLAGS] % 2 == 1
     }
 
     /// The place in the file, in bytes, at which the source starts.
@@ -123,7 +123,7 @@ impl<'a> File<'a> {
         part(
             self.bytes,
             self.source_at(),
-            u64_at(self.bytes, 104) as usize,
+            u64_at(self.bytes, layout::SOURCE_LENGTH) as usize,
         )
     }
 
@@ -138,7 +138,7 @@ impl<'a> File<'a> {
         // file with a stub opens yet.
         ensures slice { option_copied result.code ≡ Some (code_bytes self.now (header_at k)) }
     {
-        let at = FIRST_HEADER + 16 * k as usize;
+        let at = layout::FIRST_HEADER + 16 * k as usize;
         FunctionView {
             kind: FunctionKind::of_number(self.bytes[at] / 4),
             length: self.bytes[at + 1],

@@ -13,6 +13,7 @@ mod appending;
 mod file;
 mod function;
 mod kind;
+mod layout;
 mod malformed;
 mod numbers;
 mod rules;

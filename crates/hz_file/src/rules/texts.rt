@@ -5,6 +5,7 @@ ghost use Rattle.std.specs.List.{list_any, list_all};
 ghost use Rattle.hz_file.specs.Layout.{Fills, wide_units, storage_length};
 ghost use Rattle.hz_file.specs.Rules.{entries_rule, texts_rule, has_its_width, is_text_entry, is_ascii_unit, is_past_ascii};
 
+use crate::layout;
 use crate::numbers::{part, u64_at};
 use crate::rules::header::unless;
 use crate::sections::{Entry, storage_at, string_count, strings_at};
@@ -64,7 +65,7 @@ fn is_text_entry(bytes: &[u8], next: usize, entry: Entry) -> bool
 {
     let size = entry.size();
     entry.place() == next
-        && next + size <= u64_at(bytes, 96) as usize
+        && next + size <= u64_at(bytes, layout::STORAGE_LENGTH) as usize
         && has_its_width(entry.is_wide(), part(bytes, storage_at(bytes) + next, size))
 }
 
@@ -82,5 +83,8 @@ pub(crate) fn texts_fault(bytes: &[u8]) -> Option<usize>
         }
         next += entry.size();
     }
-    unless(next == u64_at(bytes, 96) as usize, storage_at(bytes))
+    unless(
+        next == u64_at(bytes, layout::STORAGE_LENGTH) as usize,
+        storage_at(bytes),
+    )
 }
