@@ -1,6 +1,6 @@
 -- The rules of the file. Each gives the place where it fails, and None where it holds; within a rule
 -- the least place counts. A later rule is asked only where the earlier ones hold.
-use Rattle.std.specs.Prelude.{ℕ, ◌+◌, ◌*◌, ◌-◌, Bool, not, ◌&&◌, List, [], ◌∷◌, take, drop, length, slice_index, nat_eq, nat_le, nat_lt, if◌then◌else◌, Option, Some, None}
+use Rattle.std.specs.Prelude.{ℕ, ◌+◌, ◌-◌, Bool, not, ◌&&◌, List, [], ◌∷◌, take, drop, length, slice_index, nat_eq, nat_le, nat_lt, if◌then◌else◌, Option, Some, None}
 use Rattle.std.specs.List.{list_all, list_any}
 use Rattle.std.specs.Option.{option_or}
 use Rattle.sha1.specs.Sha1.{sha1}
