@@ -42,7 +42,8 @@ sections_rule bytes =
     unless (nat_eq (footer_at bytes + 20) (length bytes) && nat_eq (overflow_count bytes) 0
     && nat_eq (handler_count bytes) 0 && nat_eq (large_count bytes) 0) 48
 
--- a header at a place: its code is there, it is not large, its zero is one, and it has no handler
+-- a header at a place: its code is there, it is not large, the field that must be 0 is, and it has no
+-- handler; until more is built a stub, a large header and a handler are faults
 abbrev pub is_header : List ℕ → ℕ → Bool
 is_header bytes at =
     has_code bytes at && not (is_large bytes at) && nat_eq (field 2 bytes (at + 10)) 0
