@@ -1,6 +1,6 @@
-use Rattle.std.proofs.Common.{◌≡◌, ◌+◌, ◌-◌, ◌<◌, ◌≤◌, ℕ, zero, List, [], ◌++◌, length, take, drop, min, refl, sym, ◌∙◌, ap, arith}
+use Rattle.std.proofs.Common.{◌≡◌, ◌+◌, ℕ, List, ◌++◌, length, take, drop, sym}
 use Rattle.std.proofs.Math.Seq.{take-append_seam}
-use Rattle.std.proofs.lemmas.List.{take-append-drop, drop-drop, drop_all}
+use Rattle.std.proofs.lemmas.List.{take-append-drop, drop-drop}
 
 -- what was left is the piece that was copied to the front of a buffer and what is left now
 pub piece_and_rest : (bytes copied behind : List ℕ) (place count : ℕ) → copied ≡ take count (drop place bytes) → length copied ≡ count → drop place bytes ≡ take count (copied ++ behind) ++ drop (place + count) bytes

@@ -1,5 +1,5 @@
 -- What contracts see of the files and streams in memory. Each numbers its calls from 0 and fails at chosen ones.
-use Rattle.std.specs.Prelude.{ℕ, List, map, Option, Result, Ok, Err, String, Vec, string_bytes}
+use Rattle.std.specs.Prelude.{ℕ, List, map, Result, Ok, Err, String, Vec, string_bytes}
 use Rattle.std.specs.Map.{lookup}
 use Rattle.std.specs.Str.{bytes_eq}
 use Rattle.hz_io.specs.Causes.{next}

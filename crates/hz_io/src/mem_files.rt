@@ -1,19 +1,35 @@
 ghost use Rattle.std.specs.Prelude.{
-    ◌≡◌, ◌+◌, ◌≤◌, ◌⊎◌, ◌↔◌, ℕ, List, [], ◌∷◌, ◌++◌, length, take, Contains, IsErrOf, IfOk, OnOk, OnErr, Some, None
+  ◌≡◌,
+  ◌+◌,
+  ◌≤◌,
+  ◌⊎◌,
+  ◌↔◌,
+  ℕ,
+  List,
+  [],
+  ◌∷◌,
+  ◌++◌,
+  length,
+  take,
+  Contains,
+  IsErrOf,
+  IfOk,
+  OnOk,
+  OnErr,
+  Some,
+  None,
 };
 ghost use Rattle.std.specs.Option.{option_copied};
 ghost use Rattle.hz_io.specs.Causes.{HasFileCause, next};
 ghost use Rattle.hz_io.specs.Contents.{ReadsFile, WritesFile};
 ghost use Rattle.hz_io.specs.InMemory.{file_in, files_of, after_read, after_write};
 
+use crate::faults::FileFault;
+use crate::traits::Files;
+use hz_value::Memory;
 use std::alloc::Global;
 use std::collections::BTreeMap;
 use std::marker::Model;
-
-use hz_value::Memory;
-
-use crate::faults::FileFault;
-use crate::traits::Files;
 
 /// Files in memory. Reads and writes are numbered together, from 0; one fails exactly where its number was
 /// chosen, and a read further where the file is not there. Faults of all names are counted together.
@@ -33,11 +49,12 @@ impl Model for MemFiles {
     ghost Value = { Folder };
 
     ghost view = { λ f. record {
-        files = files_of f.files.entries;
-        calls = f.calls;
-        failing = f.failing.items;
-        read_faults = f.read_faults;
-        write_faults = f.write_faults } };
+      files = files_of f.files.entries;
+      calls = f.calls;
+      failing = f.failing.items;
+      read_faults = f.read_faults;
+      write_faults = f.write_faults;
+    } };
 }
 
 impl MemFiles {
@@ -82,9 +99,9 @@ impl Files for MemFiles {
 
     ghost held = { λ f. Some (file_in f.files) };
 
-    ghost read_faults = { λ f _. f.read_faults };
+    ghost read_count = { λ f _. f.read_faults };
 
-    ghost write_faults = { λ f _. f.write_faults };
+    ghost write_count = { λ f _. f.write_faults };
 
     fn read_faults(&self, _name: &str) -> u64 {
         self.read_faults

@@ -1,16 +1,28 @@
 ghost use Rattle.std.specs.Prelude.{
-    ◌≡◌, ◌<◌, ◌-◌, ◌⊎◌, ◌↔◌, [], ◌∷◌, ◌++◌, length, Contains, IsErr, IfOk, OnOk, OnErr, Some
+  ◌≡◌,
+  ◌<◌,
+  ◌-◌,
+  ◌⊎◌,
+  ◌↔◌,
+  [],
+  ◌∷◌,
+  ◌++◌,
+  length,
+  Contains,
+  IsErr,
+  IfOk,
+  OnOk,
+  OnErr,
+  Some,
 };
 ghost use Rattle.hz_io.specs.Causes.{HasCause, next};
 ghost use Rattle.hz_io.specs.Contents.{Puts};
 
-use std::alloc::Global;
-use std::marker::Model;
-
-use hz_value::Memory;
-
 use crate::faults::Failed;
 use crate::traits::Sink;
+use hz_value::Memory;
+use std::alloc::Global;
+use std::marker::Model;
 
 /// A stream into memory. It fails exactly at the calls that were chosen and where its room is too small.
 #[derive(Debug, Drop)]
@@ -29,11 +41,12 @@ impl Model for MemSink {
     ghost Value = { Receipt };
 
     ghost view = { λ s. record {
-        got = s.bytes.items;
-        room = s.room;
-        calls = s.calls;
-        failing = s.failing.items;
-        faults = s.faults } };
+      got = s.bytes.items;
+      room = s.room;
+      calls = s.calls;
+      failing = s.failing.items;
+      faults = s.faults;
+    } };
 
     ghost invariant = { λ s. vec_len s.bytes + s.room ≤ vec_capacity s.bytes };
 }
@@ -73,7 +86,7 @@ impl MemSink {
 impl Sink for MemSink {
     ghost got = { λ s. Some s.got };
 
-    ghost faults = { λ s. s.faults };
+    ghost count = { λ s. s.faults };
 
     fn faults(&self) -> u64 {
         self.faults

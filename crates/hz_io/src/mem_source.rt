@@ -1,16 +1,30 @@
 ghost use Rattle.std.specs.Prelude.{
-    ◌≡◌, ◌<◌, ◌≤◌, ◌↔◌, [], ◌∷◌, ◌++◌, length, drop, min, Contains, IsErr, IfOk, OnOk, OnErr, Some
+  ◌≡◌,
+  ◌<◌,
+  ◌≤◌,
+  ◌↔◌,
+  [],
+  ◌∷◌,
+  ◌++◌,
+  length,
+  drop,
+  min,
+  Contains,
+  IsErr,
+  IfOk,
+  OnOk,
+  OnErr,
+  Some,
 };
+ghost use Rattle.std.specs.Io.{ReadsAtMost};
 ghost use Rattle.std.specs.Io.KnownBytes.{ReadConsumes};
 ghost use Rattle.hz_io.specs.Causes.{HasCause, next};
 
-use std::alloc::Global;
-use std::marker::Model;
-
-use hz_value::Memory;
-
 use crate::faults::Failed;
 use crate::traits::Source;
+use hz_value::Memory;
+use std::alloc::Global;
+use std::marker::Model;
 
 /// A stream of given bytes in memory. It fails exactly at the calls that were chosen.
 #[derive(Debug, Drop)]
@@ -30,11 +44,12 @@ impl Model for MemSource {
     ghost Value = { Supply };
 
     ghost view = { λ s. record {
-        left = drop s.place s.bytes.items;
-        piece = s.piece;
-        calls = s.calls;
-        failing = s.failing.items;
-        faults = s.faults } };
+      left = drop s.place s.bytes.items;
+      piece = s.piece;
+      calls = s.calls;
+      failing = s.failing.items;
+      faults = s.faults;
+    } };
 
     ghost invariant = { λ s. (s.place ≤ vec_len s.bytes) × (0 < s.piece) };
 }
@@ -68,7 +83,7 @@ impl MemSource {
 impl Source for MemSource {
     ghost left = { λ s. Some s.left };
 
-    ghost faults = { λ s. s.faults };
+    ghost count = { λ s. s.faults };
 
     fn faults(&self) -> u64 {
         self.faults
@@ -76,7 +91,7 @@ impl Source for MemSource {
 
     fn take(&mut self, buf: &mut [u8]) -> Result<usize, Failed>
         requires { 0 < length buf.old }
-        ensures bound { IfOk result (λ n. n ≤ length buf.new) }
+        ensures bound { ReadsAtMost result buf.new }
         ensures bytes { ReadConsumes (Some self.old.left) (Some self.new.left) result buf.new }
         ensures cause { HasCause self.old.faults self.new.faults result }
 

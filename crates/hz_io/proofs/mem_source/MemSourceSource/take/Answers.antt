@@ -1,4 +1,4 @@
-use Rattle.std.proofs.Common.{◌≡◌, arith}
+use Rattle.std.proofs.Common.{arith}
 use Rattle.std.proofs.lemmas.List.{drop_all, length-take}
 use Rattle.hz_io.proofs.Pieces.{piece_and_rest}
 use Rattle.hz_io.proofs.mem_source.MemSourceSource.take.Goals as goal
