@@ -8,7 +8,6 @@ use Rattle.hz_ops.specs.declared.op.OperandKind.TheVariants as kind
 use Rattle.hz_ops.specs.declared.op.Operand.{Operand}
 use Rattle.hz_ops.specs.Sizes.{width, byte_count}
 use Rattle.hz_ops.specs.Coding.{size_of, number_of, operand_fits, operands_fit, operand_bytes}
-
 use Rattle.std.proofs.lemmas.List.{length-drop, drop-drop}
 
 -- both hold where their conjunction does

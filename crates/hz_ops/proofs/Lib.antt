@@ -1,2 +1,4 @@
 pub mod Reading
 pub mod Fitting
+pub mod Numbering
+pub mod Laws

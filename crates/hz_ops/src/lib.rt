@@ -10,13 +10,13 @@
 // generator promises its code's meaning by it, and an interpreter promises to follow it.
 #![tactic(auto)]
 
-
+mod coding;
 mod number;
 mod op;
 mod operand;
 mod shape;
 mod table;
 
+pub use coding::{decode, encode_into, fits};
 pub use op::{Instr, Op, Operand, OperandKind};
 pub use shape::Shape;
-

@@ -4,7 +4,7 @@ ghost use Rattle.std.specs.Int.{to_le_bytes, cast_signed, cast_unsigned};
 ghost use Rattle.hz_ops.specs.Sizes.{width, byte_count};
 ghost use Rattle.hz_ops.specs.Coding.{size_of, operand_of, number_of, unsigned_fits, signed_fits, operand_fits, operand_at};
 
-use crate::number::{number_at, put_number, Size};
+use crate::number::{Size, number_at, put_number};
 use crate::op::{Operand, OperandKind};
 
 /// How many bytes an operand of this kind takes, in the long form or the short one.

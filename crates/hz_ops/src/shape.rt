@@ -38,6 +38,7 @@ impl<const N: usize> Shape<N> {
     ) -> Option<(ArrayVec<Operand, 5>, &'a [u8])>
         requires { N ≤ 5 }
         ensures value { option_map (λ r. (r.0.items, r.1.now)) result ≡ operands_at long self.now.kinds bytes.entry.now }
+        ensures left { IfSome result (λ r. length r.1.now ≤ length bytes.entry.now) }
     {
         let mut args = ArrayVec::new();
         let mut rest = bytes;

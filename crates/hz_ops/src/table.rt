@@ -20,6 +20,7 @@ macro_rules! table {
         }
     };
 }
+
 pub(crate) use table;
 
 /// The operation with this number, or `None` where no row has it.

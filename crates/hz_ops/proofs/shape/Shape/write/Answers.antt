@@ -28,8 +28,9 @@ loop-i-preserved g c =
     let os : List Operand = c.args.args.now in
     let k : OperandKind = get_or ks c.loop-i.i kind.Register in
     let o : Operand = get_or os c.loop-i.i (operand.Register 0) in
-    let step : Step c.args.long ks os c.loop-i.i k o = step_at c.args.long ks os c.loop-i.i kind.Register (operand.Register 0) (omega arith) c.loop-i.invariant.0 in
-    (rest_fits c.args.long ks os c.loop-i.i k o step,
-     omega (arith, length_left c.args.long ks os c.loop-i.i k o step),
-     written_more c.args.long ks os c.loop-i.i k o _ _ step c.put_operand-at.ensures.front ∙ c.loop-i.invariant.2,
-     c.put_operand-at.ensures.back ∙ dropped_on c.loop-i.at _ _ c.loop-i.buf c.args.buf.now c.put_operand-at.ensures.place c.loop-i.invariant.3)
+    let step : Step c.args.long ks os c.loop-i.i k o = step_at c.args.long ks os c.loop-i.i kind.Register (operand.Register 0) (omega arith) c.loop-i.invariant.0 in (
+      rest_fits c.args.long ks os c.loop-i.i k o step,
+      omega (arith, length_left c.args.long ks os c.loop-i.i k o step),
+      written_more c.args.long ks os c.loop-i.i k o _ _ step c.put_operand-at.ensures.front ∙ c.loop-i.invariant.2,
+      c.put_operand-at.ensures.back ∙ dropped_on c.loop-i.at _ _ c.loop-i.buf c.args.buf.now c.put_operand-at.ensures.place c.loop-i.invariant.3,
+    )
