@@ -11,6 +11,7 @@
 #![tactic(auto)]
 
 mod coding;
+mod laws;
 mod number;
 mod op;
 mod operand;
@@ -18,5 +19,6 @@ mod shape;
 mod table;
 
 pub use coding::{decode, encode_into, fits};
+pub use laws::{lines_grow, one_end, read_in_place, step_by_step};
 pub use op::{Instr, Op, Operand, OperandKind};
 pub use shape::Shape;

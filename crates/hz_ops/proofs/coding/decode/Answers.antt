@@ -1,5 +1,5 @@
 use Rattle.std.proofs.Common.{arith}
-use Rattle.hz_ops.proofs.Laws.{decoded}
+use Rattle.hz_ops.proofs.RoundTrip.{decoded}
 use Rattle.hz_ops.proofs.coding.decode.Goals as goal
 
 pub returns-clause-written : goal.returns-clause-written

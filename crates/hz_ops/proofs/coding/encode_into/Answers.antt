@@ -1,7 +1,7 @@
 use Rattle.std.proofs.Common.{◌<◌, length, arith, ap}
 use Rattle.hz_ops.specs.Table.{kinds_of}
 use Rattle.hz_ops.specs.Coding.{first_byte, operand_bytes}
-use Rattle.hz_ops.proofs.Laws.{read_again, written_whole}
+use Rattle.hz_ops.proofs.RoundTrip.{read_again, written_whole}
 use Rattle.hz_ops.proofs.coding.encode_into.Goals as goal
 
 pub returns-clause-bytes : goal.returns-clause-bytes
