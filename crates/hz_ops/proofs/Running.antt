@@ -3,7 +3,7 @@ use Rattle.std.proofs.Common.{◌≡◌, ℕ, zero, suc, ◌+◌, List, [], ◌�
 use Rattle.std.specs.Prelude.{Option, Some}
 use Rattle.std.proofs.Math.Seq.{drop-append_seam}
 use Rattle.std.proofs.lemmas.List.{drop-drop}
-use Rattle.hz_ops.specs.declared.op.Instr.{Instr}
+use Rattle.hz_ops.specs.declared.instr.Instr.{Instr}
 use Rattle.hz_ops.specs.Coding.{decode_at, front, spelling, fits_of}
 use Rattle.hz_ops.specs.Activations.{Module, Activation, Act, Print, Return, Leave, Bad, Beyond, Next, Goes, Does}
 use Rattle.hz_ops.specs.Step.{cstep}

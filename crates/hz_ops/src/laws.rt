@@ -1,6 +1,6 @@
 // Laws of the meaning of code. Each is a function with nothing to do, whose contract is the law.
 ghost use Rattle.std.specs.Prelude.{◌≡◌, ℕ, List, ◌++◌, length, IsTrue, Some};
-ghost use Rattle.hz_ops.specs.declared.op.Instr.{Instr};
+ghost use Rattle.hz_ops.specs.declared.instr.Instr.{Instr};
 ghost use Rattle.hz_ops.specs.Coding.{decode_at, spelling, fits_of};
 ghost use Rattle.hz_ops.specs.Activations.{Module};
 ghost use Rattle.hz_ops.specs.Runs.{End, System, system_step, after, Ends};

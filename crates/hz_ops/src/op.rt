@@ -1,5 +1,4 @@
-// Operations, operands and instructions.
-use arrayvec::ArrayVec;
+// Operations and operands.
 
 /// An operation. Its discriminant is its number: the first byte of the short form.
 #[derive(Clone, Copy, Debug, PartialEq, Eq)]
@@ -44,12 +43,4 @@ impl Default for Operand {
     fn default() -> Operand {
         Operand::Count(0)
     }
-}
-
-/// An instruction, in its long form where `long` is set.
-#[derive(Debug, Drop)]
-pub struct Instr {
-    pub op: Op,
-    pub long: bool,
-    pub args: ArrayVec<Operand, 5>,
 }
