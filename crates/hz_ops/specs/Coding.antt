@@ -134,6 +134,11 @@ first_byte long op = number_of_op op + (if long then 128 else 0)
 abbrev pub spelling : Instr → List ℕ
 spelling i = first_byte i.long i.op ∷ operand_bytes i.long (kinds_of i.op) i.args.items
 
+-- the bytes of instructions in a row
+abbrev pub spellings : List Instr → List ℕ
+spellings [] = []
+spellings (i ∷ is) = spelling i ++ spellings is
+
 -- these are as many operands as kinds, each of its kind, and with room in its bytes
 abbrev pub operands_fit : Bool → List OperandKind → List Operand → Bool
 operands_fit long [] [] = true
