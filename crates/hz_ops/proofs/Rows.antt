@@ -1,10 +1,9 @@
 -- What each row does where its operands are there.
-use Rattle.std.proofs.Common.{◌≡◌, ℕ, ◌+◌, Bool, true, false, List, ◌∷◌, refl, ap, ◌∙◌, ℤ}
-use Rattle.std.specs.Prelude.{Option, Some, None, slice_get, if◌then◌else◌, bytes_eq, length, take, drop}
-use Rattle.hz_value.specs.declared.leaving.Left.TheVariants as left
+use Rattle.std.proofs.Common.{◌≡◌, ℕ, List, ap, ◌∙◌, ℤ}
+use Rattle.std.specs.Prelude.{Option, Some, None, slice_get}
 use Rattle.hz_value.specs.Numbers.{safe}
-use Rattle.hz_ops.specs.Contents.{Content, Undefined, Number, Text, Object, print_name, print_object, is_print, line_of}
-use Rattle.hz_ops.specs.Activations.{Module, Activation, written, Print, Return, Leave, Bad, Next, Goes, Does}
+use Rattle.hz_ops.specs.Contents.{Content, Undefined, Number, Text, print_name, print_object, line_of}
+use Rattle.hz_ops.specs.Activations.{Module, Activation, written, Print, Return, Bad, Next, Goes, Does}
 use Rattle.hz_ops.specs.Step.{found_to, held_to, load_undefined, load_int, load_string, global_to, load_global, number_to, on_numbers, arithmetic, return_from, row_at, line_to, called_to, call}
 
 -- goes on with what the register holds
