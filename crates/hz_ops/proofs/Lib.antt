@@ -1,0 +1,8 @@
+pub mod Reading
+pub mod Fitting
+pub mod Numbering
+pub mod RoundTrip
+mod Worked
+pub mod Running
+pub mod Rows
+pub mod Registers
