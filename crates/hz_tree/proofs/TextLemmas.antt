@@ -1,5 +1,6 @@
 -- What a run of parts makes of its first part.
 use Rattle.std.proofs.Common.{◌≡◌, ◌≢◌, ℕ, zero, suc, ◌+◌, ◌-◌, ◌<◌, ◌≤◌, Bool, true, false, ◌||◌, cond, ◌==◌, List, [], ◌∷◌, drop, length, refl, sym, ap, ◌∙◌, arith, add_assoc}
+use Rattle.std.proofs.Math.Bool.{or_assoc}
 use Rattle.hz_tree.specs.declared.front.Part.{Part}
 use Rattle.hz_tree.specs.Text.{Text, none, joined, run_from, run}
 
@@ -33,4 +34,7 @@ run_goes part (b ∷ z) moves within =
 -- What stands in front of a run takes in the run's first part.
 pub joined_goes : (part : Text → Part) (z : Text) (front : Part) → 1 ≤ (part z).len → (part z).len ≤ length z
     → joined front (run part z) ≡ joined (joined front (part z)) (run part (drop (part z).len z))
-joined_goes part z front moves within = ?
+joined_goes part z front moves within =
+    let p = part z in
+    let rest = run part (drop (part z).len z) in
+    rw (run_goes part z moves within, ← add_assoc front.len p.len rest.len, ← or_assoc front.marked p.marked rest.marked) refl

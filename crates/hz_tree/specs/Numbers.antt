@@ -24,7 +24,7 @@ digit_part radix z =
 
 -- the length of the digits at the front, where single `_` may stand between two
 unfoldable pub digits_len : (radix : ℕ) → Text → ℕ
-digits_len radix z = if is_digit (slice_index z 0) radix then (run (digit_part radix) z).len else 0
+digits_len radix z = if is_digit (slice_index z 0) radix then (run (digit_part radix) (drop 1 z)).len + 1 else 0
 
 -- The number that digits go on with, which began with this value.
 abbrev pub value_from : (radix : ℕ) → ℕ → Text → ℕ
@@ -75,6 +75,6 @@ unfoldable pub number : Text → Front
 number z =
     if slice_index z 0 == 48
     then (if is_digit (slice_index z 2) (radix_of (slice_index z 1)) then non_decimal z
-        else (if is_ascii_digit (slice_index z 1) then literal OctalNumber (prefix_len is_ascii_digit z) z
+        else (if is_ascii_digit (slice_index z 1) then literal OctalNumber (prefix_len is_ascii_digit (drop 1 z) + 1) z
         else decimal 1 z))
-    else decimal (digits_len 10 z) z
+    else decimal ((run (digit_part 10) (drop 1 z)).len + 1) z
