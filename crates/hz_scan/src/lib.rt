@@ -1,0 +1,9 @@
+// The scanner: it gives the tokens of a source one after the other, and takes no memory.
+//
+// The layer above relies on this: a `Scanner` is a source and a place in it, and `next` gives the token that
+// hz_tree's `specs/Tokens.antt` has behind the place. The text of a token is the source's slice at its place.
+// A whole source is scanned in time linear in its length.
+#![tactic(auto)]
+
+mod bytes;
+mod run;
