@@ -6,4 +6,6 @@
 #![tactic(auto)]
 
 mod bytes;
+mod characters;
 mod run;
+mod spaces;

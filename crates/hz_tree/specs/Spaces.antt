@@ -10,7 +10,7 @@ line_part z = if is_line_terminator (code_point z) then none else plain (char_le
 
 -- From `//` or `#!` up to the line's end (SingleLineComment and HashbangComment).
 unfoldable pub line_comment : Text → Part
-line_comment z = plain (2 + (run line_part (drop 2 z)).len)
+line_comment z = plain ((run line_part (drop 2 z)).len + 2)
 
 -- a character of a comment that ends with `*/`, marked where it ends a line
 unfoldable pub block_part : Text → Part
@@ -21,16 +21,19 @@ block_part z =
 unfoldable pub block_comment : Text → Part
 block_comment z =
     let body = run block_part (drop 2 z) in
-    if begins (codes "*/") (drop (2 + body.len) z) then record { len = body.len + 4; marked = body.marked } else none
+    if begins (codes "*/") (drop (body.len + 2) z) then record { len = body.len + 4; marked = body.marked } else none
+
+-- white space or a line terminator, which is marked
+unfoldable pub blank : Text → Part
+blank z =
+    if is_white_space (code_point z) then plain (char_len z)
+    else (if is_line_terminator (code_point z) then record { len = char_len z; marked = true } else none)
 
 -- white space, a line terminator or a comment, marked where a line ends in it
 unfoldable pub space_part : Text → Part
 space_part z =
     if begins (codes "//") z then line_comment z
-    else (if begins (codes "/*") z then block_comment z
-    else (if is_white_space (code_point z) then plain (char_len z)
-    else (if is_line_terminator (code_point z) then record { len = char_len z; marked = true }
-    else none)))
+    else (if begins (codes "/*") z then block_comment z else blank z)
 
 -- All that stands before the next token. At the source's start it may begin with a comment `#!`.
 unfoldable pub gap : (is_start : Bool) → Text → Part
