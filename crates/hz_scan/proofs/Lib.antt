@@ -1,1 +1,3 @@
 pub mod RunLemmas
+pub mod NumberLemmas
+pub mod WordLemmas

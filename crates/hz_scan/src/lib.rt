@@ -7,5 +7,7 @@
 
 mod bytes;
 mod characters;
+mod names;
+mod numbers;
 mod run;
 mod spaces;

@@ -16,6 +16,22 @@ pub trait Repeats {
         ensures within { result.len ≤ length z.now };
 }
 
+/// No part stands there.
+pub const NONE: Part = Part {
+    len: 0,
+    marked: false,
+};
+
+/// A part of so many bytes that is not marked.
+pub fn plain(len: usize) -> Part
+    ensures { result ≡ spec.plain len }
+{
+    Part {
+        len,
+        marked: false,
+    }
+}
+
 /// All the parts at the front of the text, as one.
 
 pub fn run<P: Repeats>(parts: &P, mut z: &[u8]) -> Part

@@ -7,14 +7,10 @@ use hz_tree::Part;
 
 use crate::bytes::{byte, rest};
 use crate::characters::{char_len, code_point, is_line_terminator, is_white_space};
-use crate::run::{Repeats, run};
-
-const NONE: Part = Part {
-    len: 0,
-    marked: false,
-};
+use crate::run::{NONE, Repeats, plain, run};
 
 /// A character of a comment that ends with its line.
+#[derive(Drop)]
 struct InLine;
 
 impl Repeats for InLine {
@@ -25,15 +21,13 @@ impl Repeats for InLine {
         if is_line_terminator(code_point(z)) {
             NONE
         } else {
-            Part {
-                len: char_len(z),
-                marked: false,
-            }
+            plain(char_len(z))
         }
     }
 }
 
 /// A character of a comment that ends with `*/`.
+#[derive(Drop)]
 struct InBlock;
 
 impl Repeats for InBlock {
@@ -58,10 +52,7 @@ fn line_comment(z: &[u8]) -> Part
     ensures value { result ≡ spec.line_comment z.now }
     ensures within { result.len ≤ length z.now }
 {
-    Part {
-        len: run(&InLine, rest(z, 2)).len + 2,
-        marked: false,
-    }
+    plain(run(&InLine, rest(z, 2)).len + 2)
 }
 
 #[tactic(auto, unfolding(hz_tree::specs::Spaces::block_comment))]
@@ -83,6 +74,7 @@ fn block_comment(z: &[u8]) -> Part
 }
 
 /// What separates tokens: white space, a line terminator or a comment, marked where a line ends in it.
+#[derive(Drop)]
 struct Space;
 
 impl Repeats for Space {
@@ -107,10 +99,7 @@ fn blank(z: &[u8]) -> Part
 {
     let c = code_point(z);
     if is_white_space(c) {
-        Part {
-            len: char_len(z),
-            marked: false,
-        }
+        plain(char_len(z))
     } else if is_line_terminator(c) {
         Part {
             len: char_len(z),
