@@ -7,7 +7,10 @@
 
 mod bytes;
 mod characters;
+mod escapes;
+mod literals;
 mod names;
 mod numbers;
+mod punctuators;
 mod run;
 mod spaces;
