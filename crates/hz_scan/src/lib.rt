@@ -5,12 +5,20 @@
 // A whole source is scanned in time linear in its length.
 #![tactic(auto)]
 
+mod braces;
 mod bytes;
 mod characters;
 mod escapes;
+mod front;
+mod list;
 mod literals;
 mod names;
 mod numbers;
 mod punctuators;
 mod run;
+mod scanner;
 mod spaces;
+
+
+
+pub use scanner::Scanner;

@@ -1,6 +1,6 @@
 //! String literals and templates.
 
-ghost use Rattle.std.specs.Prelude.{◌≡◌, ◌<◌, ◌≤◌, ◌+◌, length, true, codes};
+ghost use Rattle.std.specs.Prelude.{◌≡◌, ◌<◌, ◌≤◌, ◌+◌, length, true, codes, slice_index, ◌≢◌};
 ghost use Rattle.hz_tree.specs.Text.{begins};
 ghost use Rattle.hz_tree.specs.Literals as spec;
 
@@ -39,7 +39,8 @@ impl Repeats for InText {
 /// The string literal at the front of a text that begins with a quote.
 #[tactic(auto, unfolding(hz_tree::specs::Literals::text))]
 pub fn text(z: &[u8]) -> Front
-    requires { 1 ≤ length z.now }
+    requires some { 1 ≤ length z.now }
+    requires quoted { slice_index z.now 0 ≢ 0 }
     ensures value { result ≡ spec.text z.now }
     ensures within { result.len ≤ length z.now }
 {

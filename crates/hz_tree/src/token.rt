@@ -50,3 +50,15 @@ pub enum TokenKind {
     /// No token begins here. The list of tokens ends with this.
     Bad(BadKind),
 }
+
+impl TokenKind {
+    ghost use Rattle.std.specs.Prelude.{◌≡◌};
+    ghost use Rattle.hz_tree.specs.Tokens.{is_last};
+
+    /// Whether the list of tokens ends with such a token: `End` or `Bad`.
+    pub fn is_last(self) -> bool
+        ensures { result ≡ is_last self }
+    {
+        matches!(self, TokenKind::End | TokenKind::Bad(_))
+    }
+}
