@@ -21,4 +21,6 @@ mod spaces;
 
 
 
+pub use braces::Braces;
+pub use list::list_tokens;
 pub use scanner::Scanner;
