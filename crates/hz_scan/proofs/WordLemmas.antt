@@ -1,4 +1,4 @@
--- A word is looked up among the reserved words of its length.
+-- A word is looked up among the reserved words with its first letter.
 use Rattle.std.proofs.Common.{◌≡◌, ℕ, ◌≤◌, Bool, true, false, ◌||◌, ◌&&◌, cond, ◌==◌, List, [], ◌∷◌, length, filter, refl, ap, sym, ◌∙◌, arith}
 use Rattle.std.proofs.lemmas.Bool.Decides.{nat_tests}
 use Rattle.std.proofs.lemmas.Slice.Eq.{bytes_eq-Decides}
@@ -26,14 +26,15 @@ none_among p (w ∷ words) word all fails =
     let split : (p w ≡ true) × (list_all p words ≡ true) = both_true (p w) (list_all p words) all in
     rw (tells_apart p w word split.0 fails) (none_among p words word split.1 fails)
 
-pub of_its_length : (n : ℕ) (words : List (List ℕ)) (word : List ℕ) → length word ≡ n
-    → list_any (λ w. bytes_eq w word) (filter (λ w. length w == n) words) ≡ list_any (λ w. bytes_eq w word) words
-of_its_length n [] word is = refl
-of_its_length n (w ∷ words) word is =
-    elim (length w == n) as (λ t. (length w == n) ≡ t
-            → list_any (λ v. bytes_eq v word) (cond t (w ∷ filter (λ v. length v == n) words) (filter (λ v. length v == n) words))
+-- only the words to which a test gives the same number can be this word
+pub alike : (key : List ℕ → ℕ) (n : ℕ) (words : List (List ℕ)) (word : List ℕ) → key word ≡ n
+    → list_any (λ w. bytes_eq w word) (filter (λ w. key w == n) words) ≡ list_any (λ w. bytes_eq w word) words
+alike key n [] word is = refl
+alike key n (w ∷ words) word is =
+    elim (key w == n) as (λ t. (key w == n) ≡ t
+            → list_any (λ v. bytes_eq v word) (cond t (w ∷ filter (λ v. key v == n) words) (filter (λ v. key v == n) words))
             ≡ (bytes_eq w word || list_any (λ v. bytes_eq v word) words)) [
-        true ↦ λ e. ap (λ t. bytes_eq w word || t) (of_its_length n words word is)
+        true ↦ λ e. ap (λ t. bytes_eq w word || t) (alike key n words word is)
       | false ↦ λ e.
-            let other : bytes_eq w word ≡ false = other_word w word (λ same. grind (arith, nat_tests, ap length same)) in
-            rw other (of_its_length n words word is) ] refl
+            let other : bytes_eq w word ≡ false = other_word w word (λ same. grind (arith, nat_tests, ap key same)) in
+            rw other (alike key n words word is) ] refl

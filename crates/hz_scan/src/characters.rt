@@ -1,6 +1,6 @@
 //! The character at the front of a text, and its class.
 
-ghost use Rattle.std.specs.Prelude.{◌≡◌, ◌<◌, ◌≤◌, ◌^◌, length};
+ghost use Rattle.std.specs.Prelude.{◌≡◌, ◌≢◌, ◌<◌, ◌≤◌, length, true};
 ghost use Rattle.hz_tree.specs.Characters as spec;
 
 use crate::bytes::byte;
@@ -119,7 +119,8 @@ fn starts_ascii_name(b: u8) -> bool
 #[tactic(auto, unfolding(hz_tree::specs::Characters::continues_name))]
 pub fn continues_ascii_name(b: u8) -> bool
     requires { b < 0x80 }
-    ensures { result ≡ spec.continues_name b }
+    ensures value { result ≡ spec.continues_name b }
+    ensures some { result ≡ true → b ≢ 0 }
 {
     b.is_ascii_alphanumeric() || b == b'$' || b == b'_'
 }

@@ -15,12 +15,10 @@ use crate::punctuators::punctuator_len;
 fn is_html_comment(leads: bool, z: &[u8]) -> bool
     ensures { result ≡ spec.is_html_comment leads z.now }
 {
-    let (first, second) = (byte(z, 0), byte(z, 1));
-    let (third, fourth) = (byte(z, 2), byte(z, 3));
-    if first == b'<' && second == b'!' && third == b'-' && fourth == b'-' {
-        true
-    } else {
-        leads && first == b'-' && second == b'-' && third == b'>'
+    match byte(z, 0) {
+        b'<' => byte(z, 1) == b'!' && byte(z, 2) == b'-' && byte(z, 3) == b'-',
+        b'-' => leads && byte(z, 1) == b'-' && byte(z, 2) == b'>',
+        _ => false,
     }
 }
 

@@ -16,9 +16,13 @@ struct InLine;
 impl Repeats for InLine {
     ghost part_of = { λ _. spec.line_part };
 
-    #[tactic(auto, unfolding(hz_tree::specs::Spaces::line_part))]
+    #[inline]
+    #[tactic(auto, unfolding(hz_tree::specs::Spaces::line_part, hz_tree::specs::Characters::code_point, hz_tree::specs::Characters::char_len, hz_tree::specs::Characters::is_line_terminator))]
     fn part(&self, z: &[u8]) -> Part {
-        if is_line_terminator(code_point(z)) {
+        let b = byte(z, 0);
+        if b'\r' < b && b < 0x80 {
+            plain(1)
+        } else if is_line_terminator(code_point(z)) {
             NONE
         } else {
             plain(char_len(z))
@@ -33,10 +37,14 @@ struct InBlock;
 impl Repeats for InBlock {
     ghost part_of = { λ _. spec.block_part };
 
-    #[tactic(auto, unfolding(hz_tree::specs::Spaces::block_part))]
+    #[inline]
+    #[tactic(auto, unfolding(hz_tree::specs::Spaces::block_part, hz_tree::specs::Characters::code_point, hz_tree::specs::Characters::char_len, hz_tree::specs::Characters::is_line_terminator))]
     fn part(&self, z: &[u8]) -> Part {
-        if byte(z, 0) == b'*' && byte(z, 1) == b'/' {
+        let b = byte(z, 0);
+        if b == b'*' && byte(z, 1) == b'/' {
             NONE
+        } else if b'\r' < b && b < 0x80 {
+            plain(1)
         } else {
             Part {
                 len: char_len(z),
@@ -80,11 +88,15 @@ struct Space;
 impl Repeats for Space {
     ghost part_of = { λ _. spec.space_part };
 
-    #[tactic(auto, unfolding(hz_tree::specs::Spaces::space_part))]
+    #[inline]
+    #[tactic(auto, unfolding(hz_tree::specs::Spaces::space_part, hz_tree::specs::Spaces::blank, hz_tree::specs::Characters::code_point, hz_tree::specs::Characters::char_len, hz_tree::specs::Characters::is_white_space))]
     fn part(&self, z: &[u8]) -> Part {
-        if byte(z, 0) == b'/' && byte(z, 1) == b'/' {
+        let b = byte(z, 0);
+        if b == b' ' {
+            plain(1)
+        } else if b == b'/' && byte(z, 1) == b'/' {
             line_comment(z)
-        } else if byte(z, 0) == b'/' && byte(z, 1) == b'*' {
+        } else if b == b'/' && byte(z, 1) == b'*' {
             block_comment(z)
         } else {
             blank(z)
@@ -92,11 +104,15 @@ impl Repeats for Space {
     }
 }
 
-#[tactic(auto, unfolding(hz_tree::specs::Spaces::blank))]
+#[tactic(auto, unfolding(hz_tree::specs::Spaces::blank, hz_tree::specs::Characters::code_point, hz_tree::specs::Characters::is_white_space, hz_tree::specs::Characters::is_line_terminator))]
 fn blank(z: &[u8]) -> Part
     ensures value { result ≡ spec.blank z.now }
     ensures within { result.len ≤ length z.now }
 {
+    let b = byte(z, 0);
+    if b' ' < b && b < 0x80 {
+        return NONE;
+    }
     let c = code_point(z);
     if is_white_space(c) {
         plain(char_len(z))
