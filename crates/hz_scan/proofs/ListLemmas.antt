@@ -62,11 +62,12 @@ turn_goes opened source s new hole front whole t so_far same starts holes is new
     let not_last : is_last u.kind ≡ false = rw (← is_u) more in
     let moves = token_behind_moves (in_hole opened) source s.place not_last in
     let place : new ≡ record s { place = t.at + length t.text } =
-        new_is ∙ moved hole s starts ∙ rw (same, holes, not_last, ← is_u) refl in
+    new_is ∙ moved hole s starts ∙ rw (same, holes, not_last, ← is_u) refl in
     let list = goes opened source s.place front whole t so_far is_u more in
     rw place (record {
-        list = list;
-        source_same = same;
-        not_ended = starts;
-        inside = rw is_u moves.1;
-        later = rw is_u moves.0 })
+      list = list;
+      source_same = same;
+      not_ended = starts;
+      inside = rw is_u moves.1;
+      later = rw is_u moves.0;
+    })

@@ -17,5 +17,5 @@ pub goes_on : (part : Text → Part) (z after : Text) (front whole p : Part) →
     → joined (joined front p) (run part after) ≡ whole
 goes_on part z after front whole p so_far is moves within behind =
     let known : joined front (run part z) ≡ joined (joined front (part z)) (run part (drop (part z).len z)) =
-        joined_goes part z front (rw (← is) moves) (rw (← is) within) in
+    joined_goes part z front (rw (← is) moves) (rw (← is) within) in
     rw (behind, is) (sym known ∙ so_far)

@@ -8,7 +8,9 @@ use Rattle.std.specs.Str.{bytes_eq}
 other_word : (w word : List ℕ) → (w ≡ word → ⊥) → bytes_eq w word ≡ false
 other_word w word other =
     elim (bytes_eq w word) as (λ t. bytes_eq w word ≡ t → t ≡ false) [
-        true ↦ λ e. absurd (other ((bytes_eq-Decides w word).0 e)) | false ↦ λ e. refl ] refl
+      | true ↦ λ e. absurd (other ((bytes_eq-Decides w word).0 e))
+      | false ↦ λ e. refl
+    ] refl
 
 -- a test that the word does not pass tells it from each word that does
 tells_apart : (p : List ℕ → Bool) (w word : List ℕ) → p w ≡ true → p word ≡ false → bytes_eq w word ≡ false
@@ -32,9 +34,10 @@ pub alike : (key : List ℕ → ℕ) (n : ℕ) (words : List (List ℕ)) (word :
 alike key n [] word is = refl
 alike key n (w ∷ words) word is =
     elim (key w == n) as (λ t. (key w == n) ≡ t
-            → list_any (λ v. bytes_eq v word) (cond t (w ∷ filter (λ v. key v == n) words) (filter (λ v. key v == n) words))
-            ≡ (bytes_eq w word || list_any (λ v. bytes_eq v word) words)) [
-        true ↦ λ e. ap (λ t. bytes_eq w word || t) (alike key n words word is)
+    → list_any (λ v. bytes_eq v word) (cond t (w ∷ filter (λ v. key v == n) words) (filter (λ v. key v == n) words))
+    ≡ (bytes_eq w word || list_any (λ v. bytes_eq v word) words)) [
+      | true ↦ λ e. ap (λ t. bytes_eq w word || t) (alike key n words word is)
       | false ↦ λ e.
-            let other : bytes_eq w word ≡ false = other_word w word (λ same. grind (arith, nat_tests, ap key same)) in
-            rw other (alike key n words word is) ] refl
+          let other : bytes_eq w word ≡ false = other_word w word (λ same. grind (arith, nat_tests, ap key same)) in
+          rw other (alike key n words word is)
+    ] refl

@@ -1,9 +1,7 @@
+use crate::bytes::byte;
+use hz_tree::{Token, TokenKind};
 use std::alloc::{AllocError, Global};
 use std::marker::Model;
-
-use hz_tree::{Token, TokenKind};
-
-use crate::bytes::byte;
 
 /// The braces that are open behind some tokens, and which of them a `${` opened. They say where a `}` goes
 /// on with a template.
@@ -28,7 +26,9 @@ impl Braces {
     pub fn new(alloc: Global) -> Braces
         ensures { result ≡ [] }
     {
-        Braces { open: Vec::new(alloc) }
+        Braces {
+            open: Vec::new(alloc),
+        }
     }
 
     /// Whether the next token's `}` would go on with a template.

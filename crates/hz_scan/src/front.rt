@@ -3,14 +3,13 @@
 ghost use Rattle.std.specs.Prelude.{◌≡◌, ◌<◌, ◌≤◌, ◌||◌, ◌&&◌, length, true};
 ghost use Rattle.hz_tree.specs.Tokens as spec;
 
-use hz_tree::{BadKind, Front, OutsideKind, TokenKind};
-
 use crate::bytes::byte;
 use crate::characters::{code_point, starts_name};
 use crate::literals::{template, text};
 use crate::names::name;
 use crate::numbers::{bad, number};
 use crate::punctuators::punctuator_len;
+use hz_tree::{BadKind, Front, OutsideKind, TokenKind};
 
 fn is_html_comment(leads: bool, z: &[u8]) -> bool
     ensures { result ≡ spec.is_html_comment leads z.now }

@@ -18,8 +18,8 @@ mod punctuators;
 mod run;
 mod scanner;
 mod spaces;
-
-
+#[cfg(test)]
+mod tests;
 
 pub use braces::Braces;
 pub use list::list_tokens;

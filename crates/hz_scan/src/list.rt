@@ -1,12 +1,10 @@
 ghost use Rattle.std.specs.Prelude.{◌≡◌, ◌+◌, map, IfOk};
 ghost use Rattle.hz_tree.specs.Tokens as spec;
 
-use std::alloc::{AllocError, Global};
-
-use hz_tree::Token;
-
 use crate::braces::Braces;
 use crate::scanner::Scanner;
+use hz_tree::Token;
+use std::alloc::{AllocError, Global};
 
 /// The tokens of a source, up to `End` or the first `Bad`.
 pub fn list_tokens(alloc: Global, source: &[u8]) -> Result<Vec<Token<'_>>, AllocError>

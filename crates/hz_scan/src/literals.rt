@@ -4,12 +4,11 @@ ghost use Rattle.std.specs.Prelude.{◌≡◌, ◌<◌, ◌≤◌, ◌+◌, leng
 ghost use Rattle.hz_tree.specs.Text.{begins};
 ghost use Rattle.hz_tree.specs.Literals as spec;
 
-use hz_tree::{BadKind, Front, Part, TokenKind};
-
 use crate::bytes::{byte, rest};
 use crate::escapes::{escape_len, is_octal_escape};
 use crate::numbers::bad;
 use crate::run::{NONE, Repeats, plain, run};
+use hz_tree::{BadKind, Front, Part, TokenKind};
 
 /// A byte of a string literal or an escape in it.
 #[derive(Drop)]
@@ -48,9 +47,7 @@ pub fn text(z: &[u8]) -> Front
     let body = run(&InText { quote }, rest(z, 1));
     if byte(z, body.len + 1) == quote {
         Front {
-            kind: TokenKind::Text {
-                octal: body.marked,
-            },
+            kind: TokenKind::Text { octal: body.marked },
             len: body.len + 2,
         }
     } else {
@@ -92,18 +89,12 @@ pub fn template(first: bool, z: &[u8]) -> Front
     let len = run(&InTemplate, rest(z, 1)).len + 1;
     if byte(z, len) == b'`' {
         Front {
-            kind: TokenKind::Template {
-                first,
-                last: true,
-            },
+            kind: TokenKind::Template { first, last: true },
             len: len + 1,
         }
     } else if begins_hole(rest(z, len)) {
         Front {
-            kind: TokenKind::Template {
-                first,
-                last: false,
-            },
+            kind: TokenKind::Template { first, last: false },
             len: len + 2,
         }
     } else {

@@ -5,27 +5,47 @@ ghost use Rattle.std.specs.List.{list_any};
 ghost use Rattle.std.specs.Str.{bytes_eq};
 ghost use Rattle.hz_tree.specs.Names as spec;
 
-use hz_tree::{Front, Part, TokenKind};
-
 use crate::bytes::{byte, rest};
 use crate::characters::{char_len, code_point, continues_ascii_name, continues_name};
 use crate::run::{NONE, Repeats, plain, run};
+use hz_tree::{Front, Part, TokenKind};
 
 // The reserved words by their first letter.
 const IN_B: [&[u8]; 1] = [b"break"];
+
 const IN_C: [&[u8]; 5] = [b"case", b"catch", b"class", b"const", b"continue"];
+
 const IN_D: [&[u8]; 4] = [b"debugger", b"default", b"delete", b"do"];
+
 const IN_E: [&[u8]; 4] = [b"else", b"enum", b"export", b"extends"];
+
 const IN_F: [&[u8]; 4] = [b"false", b"finally", b"for", b"function"];
-const IN_I: [&[u8]; 6] = [b"if", b"import", b"in", b"instanceof", b"implements", b"interface"];
+
+const IN_I: [&[u8]; 6] = [
+    b"if",
+    b"import",
+    b"in",
+    b"instanceof",
+    b"implements",
+    b"interface",
+];
+
 const IN_L: [&[u8]; 1] = [b"let"];
+
 const IN_N: [&[u8]; 2] = [b"new", b"null"];
+
 const IN_P: [&[u8]; 4] = [b"package", b"private", b"protected", b"public"];
+
 const IN_R: [&[u8]; 1] = [b"return"];
+
 const IN_S: [&[u8]; 3] = [b"super", b"switch", b"static"];
+
 const IN_T: [&[u8]; 5] = [b"this", b"throw", b"true", b"try", b"typeof"];
+
 const IN_V: [&[u8]; 2] = [b"var", b"void"];
+
 const IN_W: [&[u8]; 2] = [b"while", b"with"];
+
 const IN_Y: [&[u8]; 1] = [b"yield"];
 
 fn is_among(mut words: &[&[u8]], word: &[u8]) -> bool

@@ -5,11 +5,10 @@ ghost use Rattle.std.specs.Char.{digit_value, is_digit, is_ascii_digit};
 ghost use Rattle.std.specs.List.{prefix_len};
 ghost use Rattle.hz_tree.specs.Numbers as spec;
 
-use hz_tree::{BadKind, Front, OutsideKind, Part, TokenKind};
-
 use crate::bytes::{byte, rest};
 use crate::characters::{code_point, starts_name};
 use crate::run::{NONE, Repeats, plain, run};
+use hz_tree::{BadKind, Front, OutsideKind, Part, TokenKind};
 
 /// The greatest integer of which all smaller ones are numbers too (ECMA-262, 21.1.2.6).
 const MAX_SAFE_INTEGER: u64 = 9007199254740991;

@@ -13,7 +13,11 @@ fn dot(second: u8, third: u8, fourth: u8) -> usize
     ensures value { result ≡ spec.punctuator_of 46 second third fourth }
     ensures within { Reaches result second third fourth }
 {
-    if second == b'.' && third == b'.' { 3 } else { 1 }
+    if second == b'.' && third == b'.' {
+        3
+    } else {
+        1
+    }
 }
 
 #[tactic(auto, unfolding(hz_tree::specs::Punctuators::punctuator_of))]

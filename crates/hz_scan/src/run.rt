@@ -2,9 +2,8 @@ ghost use Rattle.std.specs.Prelude.{◌≡◌, ◌≤◌, ℕ, List, length};
 ghost use Rattle.hz_tree.specs.declared.front.Part.{Part};
 ghost use Rattle.hz_tree.specs.Text as spec;
 
-use hz_tree::Part;
-
 use crate::bytes::rest;
+use hz_tree::Part;
 
 /// What may stand at the front of a text, and again behind it.
 pub trait Repeats {
@@ -26,10 +25,7 @@ pub const NONE: Part = Part {
 pub fn plain(len: usize) -> Part
     ensures { result ≡ spec.plain len }
 {
-    Part {
-        len,
-        marked: false,
-    }
+    Part { len, marked: false }
 }
 
 /// All the parts at the front of the text, as one.

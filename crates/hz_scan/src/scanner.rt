@@ -1,13 +1,11 @@
 ghost use Rattle.std.specs.Prelude.{◌≡◌, ◌≤◌, ◌+◌, length, slice_range};
 ghost use Rattle.hz_tree.specs.Tokens.{lexeme, token_behind};
 
-use std::marker::Model;
-
-use hz_tree::Token;
-
 use crate::bytes::rest;
 use crate::front::token;
 use crate::spaces::gap;
+use hz_tree::Token;
+use std::marker::Model;
 
 /// A place in a source, from which the tokens are given one after the other.
 ///

@@ -3,11 +3,10 @@
 ghost use Rattle.std.specs.Prelude.{◌≡◌, ◌<◌, ◌≤◌, ◌+◌, ◌^◌, length, true};
 ghost use Rattle.hz_tree.specs.Spaces as spec;
 
-use hz_tree::Part;
-
 use crate::bytes::{byte, rest};
 use crate::characters::{char_len, code_point, is_line_terminator, is_white_space};
 use crate::run::{NONE, Repeats, plain, run};
+use hz_tree::Part;
 
 /// A character of a comment that ends with its line.
 #[derive(Drop)]

@@ -1,10 +1,9 @@
 // Scans a file some times over and prints how many tokens it has. The script bench/scanner measures it.
 #![tactic(auto)]
 
+use hz_scan::{Braces, Scanner};
 use std::alloc::{AllocError, Global};
 use std::{env, fs, io};
-
-use hz_scan::{Braces, Scanner};
 
 /// How many tokens the source has, the last one included.
 fn count_tokens(alloc: Global, source: &[u8]) -> Result<u64, AllocError> {

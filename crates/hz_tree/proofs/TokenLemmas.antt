@@ -85,24 +85,24 @@ named_moves z h = name_moves z (not_empty z h)
 
 signs_moves : (hole leads : Bool) (z : Text)
     → Moves (if slice_index z 0 == 125 && hole then template false z
-        else (if is_html_comment leads z then bad (Outside HtmlComment) else other z))
+    else (if is_html_comment leads z then bad (Outside HtmlComment) else other z))
 signs_moves hole leads z = search (either_moves, bad_moves, template_moves, other_moves)
 
 literals_moves : (hole leads : Bool) (z : Text)
     → Moves (if slice_index z 0 == 46 && is_ascii_digit (slice_index z 1) then bad (Outside NumberForm)
-        else (if slice_index z 0 == 34 || slice_index z 0 == 39 then text z
-        else (if slice_index z 0 == 96 then template true z
-        else (if slice_index z 0 == 125 && hole then template false z
-        else (if is_html_comment leads z then bad (Outside HtmlComment) else other z)))))
+    else (if slice_index z 0 == 34 || slice_index z 0 == 39 then text z
+    else (if slice_index z 0 == 96 then template true z
+    else (if slice_index z 0 == 125 && hole then template false z
+    else (if is_html_comment leads z then bad (Outside HtmlComment) else other z)))))
 literals_moves hole leads z = search (either_moves, bad_moves, text_moves, template_moves, signs_moves)
 
 pub token_moves : (hole leads : Bool) (z : Text) → is_last (token hole leads z).kind ≡ false → 1 ≤ (token hole leads z).len
 unfolding token
 token_moves hole leads z =
     let all : Moves (token hole leads z) = either_known (length z == 0) _ _ end_moves (λ h.
-        let named : Moves (name z) = named_moves z h in
-        either_moves (starts_name (code_point z)) (name z) _ named
-            (either_moves (is_ascii_digit (slice_index z 0)) (number z) _ (number_moves z) (literals_moves hole leads z))) in
+    let named : Moves (name z) = named_moves z h in
+    either_moves (starts_name (code_point z)) (name z) _ named
+    (either_moves (is_ascii_digit (slice_index z 0)) (number z) _ (number_moves z) (literals_moves hole leads z))) in
     all.moves
 
 token_nil : (hole leads : Bool) → is_last (token hole leads []).kind ≡ true
@@ -114,12 +114,13 @@ last_not f t = cc (f, t)
 
 at_inside : (hole leads : Bool) (source : Text) (at : ℕ) → is_last (token hole leads (drop at source)).kind ≡ false → at < length source
 at_inside hole leads source at h = elim (nat_lt at (length source)) as (λ b. nat_lt at (length source) ≡ b → at < length source) [
-    true ↦ λ e. grind (arith, nat_tests)
+  | true ↦ λ e. grind (arith, nat_tests)
   | false ↦ λ e.
-        let beyond : length source ≤ at = grind (arith, nat_tests) in
-        let nil : drop at source ≡ [] = drop_all at source beyond in
-        let last : is_last (token hole leads []).kind ≡ false = rw nil at h in
-        absurd (last_not last (token_nil hole leads)) ] refl
+      let beyond : length source ≤ at = grind (arith, nat_tests) in
+      let nil : drop at source ≡ [] = drop_all at source beyond in
+      let last : is_last (token hole leads []).kind ≡ false = rw nil at h in
+      absurd (last_not last (token_nil hole leads))
+] refl
 
 either_same : (test : Bool) (a b : List Lexeme) → (test ≡ false → a ≡ b) → (if test then [] else a) ≡ (if test then [] else b)
 either_same test a b same = elim test as (λ t. (t ≡ false → a ≡ b) → (if t then [] else a) ≡ (if t then [] else b)) [ true ↦ λ _. refl | false ↦ λ h. h refl ] same
@@ -127,7 +128,7 @@ either_same test a b same = elim test as (λ t. (t ≡ false → a ≡ b) → (i
 -- a token that is not the last one lies inside the source, and the place behind it is a later one
 pub token_behind_moves : (hole : Bool) (source : Text) (place : ℕ) → is_last (token_behind hole source place).kind ≡ false
     → (place < (token_behind hole source place).at + length (token_behind hole source place).text)
-      × ((token_behind hole source place).at + length (token_behind hole source place).text ≤ length source)
+    × ((token_behind hole source place).at + length (token_behind hole source place).text ≤ length source)
 unfolding token_behind
 token_behind_moves hole source place h =
     let space = gap (place == 0) (drop place source) in
@@ -145,19 +146,19 @@ tokens_more (suc n) zero opened source place h k = absurd (omega arith)
 tokens_more (suc n) (suc m) opened source place h k =
     let t = token_behind (in_hole opened) source place in
     let more : is_last t.kind ≡ false → tokens_to n (braces t opened) source (t.at + length t.text) ≡ tokens_to m (braces t opened) source (t.at + length t.text)
-        = λ e. let moves = token_behind_moves (in_hole opened) source place e in
-            tokens_more n m (braces t opened) source (t.at + length t.text) (omega arith) (omega arith) in
+    = λ e. let moves = token_behind_moves (in_hole opened) source place e in
+    tokens_more n m (braces t opened) source (t.at + length t.text) (omega arith) (omega arith) in
     ap (λ ts. t ∷ ts) (either_same (is_last t.kind) _ _ more)
 
 -- The list of tokens behind a place: the next one, and unless it is the last one those behind it.
 pub tokens_law : (opened : List Bool) (source : Text) (place : ℕ) → tokens_from opened source place
     ≡ (let t = token_behind (in_hole opened) source place in
-        t ∷ (if is_last t.kind then [] else tokens_from (braces t opened) source (t.at + length t.text)))
+    t ∷ (if is_last t.kind then [] else tokens_from (braces t opened) source (t.at + length t.text)))
 unfolding tokens_from
 tokens_law opened source place =
     let t = token_behind (in_hole opened) source place in
     let next = t.at + length t.text in
     let more : is_last t.kind ≡ false → tokens_to (length source - place) (braces t opened) source next ≡ tokens_to (suc (length source - next)) (braces t opened) source next
-        = λ e. let moves = token_behind_moves (in_hole opened) source place e in
-            tokens_more (length source - place) (suc (length source - next)) (braces t opened) source next (omega arith) (omega arith) in
+    = λ e. let moves = token_behind_moves (in_hole opened) source place e in
+    tokens_more (length source - place) (suc (length source - next)) (braces t opened) source next (omega arith) (omega arith) in
     ap (λ ts. t ∷ ts) (either_same (is_last t.kind) _ _ more)

@@ -75,6 +75,6 @@ unfoldable pub number : Text → Front
 number z =
     if slice_index z 0 == 48
     then (if is_digit (slice_index z 2) (radix_of (slice_index z 1)) then non_decimal z
-        else (if is_ascii_digit (slice_index z 1) then literal OctalNumber (prefix_len is_ascii_digit (drop 1 z) + 1) z
-        else decimal 1 z))
+    else (if is_ascii_digit (slice_index z 1) then literal OctalNumber (prefix_len is_ascii_digit (drop 1 z) + 1) z
+    else decimal 1 z))
     else decimal ((run (digit_part 10) (drop 1 z)).len + 1) z

@@ -30,19 +30,14 @@ pub enum TokenKind {
     Number(u64),
 
     /// A string literal. `octal` tells of a legacy octal escape, `\8` or `\9` in it.
-    Text {
-        octal: bool,
-    },
+    Text { octal: bool },
 
     /// `0` and decimal digits: a literal of sloppy code alone. It has no value here.
     OctalNumber,
 
     /// A template or a part of one. It is the `first` part where it begins with a backquote, else with `}`,
     /// and the `last` where it ends with a backquote, else with `${`.
-    Template {
-        first: bool,
-        last: bool,
-    },
+    Template { first: bool, last: bool },
 
     /// The end of the source.
     End,
