@@ -1,1 +1,7 @@
+pub mod Effects
+pub mod FirstTexts
+pub mod Outcomes
+pub mod Printing
+pub mod Saying
 pub mod Statuses
+pub mod Words
