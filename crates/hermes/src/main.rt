@@ -10,6 +10,8 @@ mod disk;
 mod first;
 mod status;
 mod steps;
+#[cfg(test)]
+mod tests;
 mod top;
 mod words;
 

@@ -42,7 +42,7 @@ pub fn hermes<F: Files, S: Source, K: Sink, E: Sink, L: Ledger>(
     // A fault of reading is one of this file in this call, and one of writing is one of out in this call.
     ensures read_fault { result ≡ Status.ReadFault
         → Rose (F.read_count files.old (file_of (map string_bytes words.now)))
-            (F.read_count files.new (file_of (map string_bytes words.now))) }
+        (F.read_count files.new (file_of (map string_bytes words.now))) }
     ensures write_fault { WriteCause result (K.count out.old) (K.count out.new) }
 
     // Standard error gets the line of the status, or a front of it after a fault of its own.
@@ -60,19 +60,14 @@ pub fn hermes<F: Files, S: Source, K: Sink, E: Sink, L: Ledger>(
 }
 
 // All but the line on standard error.
-fn command<F: Files, K: Sink>(
-    alloc: Global,
-    words: &[String],
-    files: &mut F,
-    out: &mut K,
-) -> Status
+fn command<F: Files, K: Sink>(alloc: Global, words: &[String], files: &mut F, out: &mut K) -> Status
     ensures usage { (word : ℕ) → usage_fault (map string_bytes words.now) ≡ Some word
         → (result ≡ Status.Usage word) × (files.new ≡ files.old) × (out.new ≡ out.old) }
     ensures outcome { usage_fault (map string_bytes words.now) ≡ None
         → OutcomeOf (F.held files.old) (file_of (map string_bytes words.now)) result (K.got out.old) (K.got out.new) }
     ensures read_fault { result ≡ Status.ReadFault
         → Rose (F.read_count files.old (file_of (map string_bytes words.now)))
-            (F.read_count files.new (file_of (map string_bytes words.now))) }
+        (F.read_count files.new (file_of (map string_bytes words.now))) }
     ensures write_fault { WriteCause result (K.count out.old) (K.count out.new) }
     ensures held { F.held files.new ≡ F.held files.old }
     ensures writes { (name : List ℕ) → F.write_count files.new name ≡ F.write_count files.old name }
