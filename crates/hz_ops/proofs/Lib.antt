@@ -4,3 +4,5 @@ pub mod Numbering
 pub mod RoundTrip
 mod Worked
 pub mod Running
+pub mod Rows
+pub mod Registers

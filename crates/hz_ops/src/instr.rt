@@ -2,7 +2,7 @@
 ghost use Rattle.std.specs.Prelude.{◌≡◌, ◌++◌, IsTrue, OnOk, OnErr};
 ghost use Rattle.hz_ops.specs.Coding.{fits_of, spelling};
 
-use crate::coding::{operands_fit, encode_into};
+use crate::coding::{encode_into, operands_fit};
 use crate::op::{Op, Operand};
 use arrayvec::ArrayVec;
 use hz_value::Memory;

@@ -20,8 +20,8 @@ mod shape;
 mod table;
 
 pub use coding::{decode, encode_into, fits};
-pub use laws::{lines_grow, one_end, read_in_place, step_by_step};
 pub use instr::{Instr, push_instr};
+pub use laws::{ended_is_built, lines_grow, one_end, read_in_place, step_by_step};
 pub use op::{Op, Operand, OperandKind};
 pub use shape::Shape;
 

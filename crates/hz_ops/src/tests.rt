@@ -13,10 +13,12 @@ fn the_two_forms(rt: HostRuntime) -> Result<(), Fail> {
     let long = Instr::new(Op::LoadInt, true, &operands);
     assert!(rt; fits(&long));
     assert_eq!(rt; encode_into(&long, &mut bytes), 17);
-    assert_eq!(
-        rt;
+    assert_eq!(rt;
         &bytes[..17],
-        [0x86, 3, 0, 0, 0, 0, 0, 0, 0, 0xFE, 255, 255, 255, 255, 255, 255, 255].as_slice()
+        [
+            0x86, 3, 0, 0, 0, 0, 0, 0, 0, 0xFE, 255, 255, 255, 255, 255, 255, 255
+        ]
+        .as_slice()
     );
     Ok(())
 }
