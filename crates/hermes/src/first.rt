@@ -1,0 +1,4 @@
+// First texts: the little language that Hermes compiles, and its reader.
+
+pub mod language;
+pub mod reader;
