@@ -1,6 +1,7 @@
 pub mod Arguments
 pub mod Digits
 pub mod Numerals
+pub mod Reached
 pub mod Spacing
 pub mod Steps
 pub mod SumSteps

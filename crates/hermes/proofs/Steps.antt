@@ -1,7 +1,7 @@
 -- The steps of the reader, as its functions state them.
 use Rattle.std.proofs.Common.{◌≡◌, ℕ, ◌+◌, ◌-◌, ◌*◌, ◌<◌, ◌≤◌, ◌≢◌, Bool, true, false, ◌&&◌, ◌==◌, nat_le, if◌then◌else◌, List, [], ◌∷◌, ◌++◌, length, take, drop, slice_index, slice_range, refl, ap, ◌⊎◌, inl, inr, sym, ◌∙◌, subst, arith, Option, Some, None, Result, Ok, Err}
 use Rattle.std.specs.Int.{IsInRange}
-use Rattle.std.proofs.lemmas.List.{length-drop, length-take-le, drop_more, get_or-drop, take_more}
+use Rattle.std.proofs.lemmas.List.{length-drop, length-take-le, drop_more, get_or-drop, take_more, nil_from_length}
 use Rattle.hermes.specs.FirstTexts.{is_blank, is_number, is_text_byte}
 use Rattle.hermes.specs.Reading.{operator_byte, steps_of, steps_with, Rest, RestToken, RestText, RestNumber, Moves, Halts, IsState, Stepped}
 use Rattle.hermes.proofs.Arguments.{text_opens, number_moves, first_number_opens, sum_ends, operator_moves}
@@ -75,7 +75,7 @@ pub sum_goes_on : (s : Sum) (op : Operator) (b : ℕ) (done : List Argument) →
 sum_goes_on s op b done e = subst (λ (y : ℕ). Moves (RestToken [] (next.Operator s) done) (RestToken [] (next.Number s op) done) y) (sym e) (operator_moves s op done)
 
 -- in a text
-text_length : (source : List ℕ) (start at : ℕ) → start ≤ at → at ≤ length source → length (slice_range source start at) ≡ at - start
+pub text_length : (source : List ℕ) (start at : ℕ) → start ≤ at → at ≤ length source → length (slice_range source start at) ≡ at - start
 text_length source start at low high = length-take-le (at - start) (drop start source) (omega (arith, length-drop start source))
 
 more_text : (source : List ℕ) (start at : ℕ) → start ≤ at → at < length source → slice_range source start (at + 1) ≡ slice_range source start at ++ slice_index source at ∷ []
@@ -136,3 +136,28 @@ text_step_at source start at done good result low short high other tells e =
       (chosen (RestText (slice_range source start at) done) source at (slice_index source at) done (state.Text start) good
         (λ yes. ((omega arith, omega arith), text_goes_on source start at done low high other (sym tells ∙ yes)))
         (λ no. text_stops source start at done low high other (inr (sym tells ∙ no))))
+
+pub at_next : (source : List ℕ) (at b : ℕ) (done new : List Argument) (after other : Next) (result : Result State ReadFault) → after ≡ other →
+    Stepped (RestToken [] other done) source at b new result → Stepped (RestToken [] after done) source at b new result
+at_next source at b done new after other result e = subst (λ (k : Next). Stepped (RestToken [] k done) source at b new result) (sym e)
+
+pub at_digit : (old : Left) (source : List ℕ) (at b d : ℕ) (done : List Argument) (result : Result State ReadFault) → b ≡ 48 + d →
+    Stepped old source at (48 + d) done result → Stepped old source at b done result
+at_digit old source at b d done result e = subst (λ (y : ℕ). Stepped old source at y done result) (sym e)
+
+-- What is left may be said in another way.
+pub step_from : (old other : Left) (source : List ℕ) (at b : ℕ) (done : List Argument) (result : Result State ReadFault) →
+    ((r : List ℕ) (calls : List Argument) → old (b ∷ r) calls → other (b ∷ r) calls) → ((r : List ℕ) (calls : List Argument) → other (b ∷ r) calls → old (b ∷ r) calls) →
+    Stepped other source at b done result → Stepped old source at b done result
+step_from old other source at b done (Ok new) to from x = (x.0, record { on = λ r calls y. x.1.on r calls (to r calls y); back = λ r calls y. from r calls (x.1.back r calls y) })
+step_from old other source at b done (Err (fault.NotYet n)) to from x = (x.0, λ r calls y. x.1 r calls (to r calls y))
+step_from old other source at b done (Err fault.Memory) to from x = tt
+
+pub at_state : (source : List ℕ) (at b : ℕ) (done new : List Argument) (now other : State) (result : Result State ReadFault) → now ≡ other →
+    Stepped (Rest source at other done) source at b new result → Stepped (Rest source at now done) source at b new result
+at_state source at b done new now other result e = subst (λ (s : State). Stepped (Rest source at s done) source at b new result) (sym e)
+
+pub at_part : (source : List ℕ) (at b : ℕ) (done new : List Argument) (part : List ℕ) (after : Next) (result : Result State ReadFault) → length part < 1 →
+    Stepped (RestToken [] after done) source at b new result → Stepped (RestToken part after done) source at b new result
+at_part source at b done new part after result short =
+    subst (λ (p : List ℕ). Stepped (RestToken p after done) source at b new result) (sym (nil_from_length part (omega arith)))

@@ -38,7 +38,7 @@ operator_solid (operator.Sign Plus) tokens rest e = subst Solid (sym e) refl
 operator_solid (operator.Sign Minus) tokens rest e = subst Solid (sym e) refl
 operator_solid operator.Times tokens rest e = subst Solid (sym e) refl
 
-sum_solid : (more : List Step) (tokens rest rest' : List (List ℕ)) → tokens ≡ flat_map step_tokens more ++ rest → rest ≡ (41 ∷ []) ∷ rest' → Solid tokens
+pub sum_solid : (more : List Step) (tokens rest rest' : List (List ℕ)) → tokens ≡ flat_map step_tokens more ++ rest → rest ≡ (41 ∷ []) ∷ rest' → Solid tokens
 sum_solid [] tokens rest rest' e f = begins_solid 41 [] tokens rest' refl (e ∙ f)
 sum_solid (u ∷ more) tokens rest rest' e f = operator_solid u.0 tokens (decimal u.1 ∷ (flat_map step_tokens more ++ rest)) e
 

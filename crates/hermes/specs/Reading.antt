@@ -1,7 +1,7 @@
 -- What the reader of first texts has still to come, at each of its states. Only its private steps cite this.
-use Rattle.std.specs.Prelude.{◌≡◌, ℕ, ◌+◌, ◌≤◌, Bool, IsTrue, List, [], ◌∷◌, ◌++◌, length, decimal, codes, flat_map, map, slice_range, take, Option, Some, None, Result, Ok, Err}
+use Rattle.std.specs.Prelude.{◌≡◌, ℕ, ◌+◌, ◌≤◌, Bool, IsTrue, List, [], ◌∷◌, ◌++◌, length, decimal, codes, flat_map, map, slice_range, take, ◌==◌, Option, Some, None, false, Result, Ok, Err}
 use Rattle.std.specs.List.{list_all}
-use Rattle.hermes.specs.FirstTexts.{sign_byte, argument_tokens, call_tokens, Spaced, is_number, is_text_byte, is_argument, IsFirst}
+use Rattle.hermes.specs.FirstTexts.{sign_byte, argument_tokens, call_tokens, Spaced, is_number, is_text_byte, is_argument, IsFirst, IsStuck}
 use Rattle.hermes.specs.declared.first.language.Sign.{Sign}
 use Rattle.hermes.specs.declared.first.language.Sign.TheVariants.{Plus}
 use Rattle.hermes.specs.declared.first.language.Addend.{Addend}
@@ -138,3 +138,14 @@ pub record IsRead (source : List ℕ) (at : ℕ) (now : State) (done : List Argu
   pub valid : IsState at now
   pub on : (r : List ℕ) (calls : List Argument) → IsFirst calls (take at source ++ r) → Rest source at now done r calls
   pub back : (r : List ℕ) (calls : List Argument) → Rest source at now done r calls → IsFirst calls (take at source ++ r)
+
+-- Behind a call, where the text may end.
+abbrev pub is_between : State → Bool
+is_between (state.Token part next.Call) = length part.now == 0
+is_between other = false
+
+-- What reading a source gives: its calls, and there are no others; or the place where it stops beginning a first text.
+abbrev pub Reads : List ℕ → Result (List Argument) ReadFault → Type 0
+Reads source (Ok found) = IsFirst found source × ((calls : List Argument) → IsFirst calls source → calls ≡ found)
+Reads source (Err (fault.NotYet at)) = IsStuck source at
+Reads source (Err fault.Memory) = Unit {0}

@@ -5,7 +5,7 @@ ghost use Rattle.std.specs.Int.{IsInRange};
 ghost use Rattle.hermes.specs.declared.first.language.Argument.{Argument};
 ghost use Rattle.hermes.specs.declared.first.reader.Operator.{Operator};
 ghost use Rattle.hermes.specs.FirstTexts.{is_blank, is_number, is_text_byte};
-ghost use Rattle.hermes.specs.Reading.{operator_byte, steps_of, steps_with, Rest, RestToken, RestText, RestNumber, IsState, Stepped, IsRead};
+ghost use Rattle.hermes.specs.Reading.{operator_byte, steps_of, steps_with, Rest, RestToken, RestText, RestNumber, IsState, Stepped, IsRead, is_between, Reads};
 
 use crate::first::language::{Addend, Argument, Calls, ReadFault, Series, Sign, Sum, Term, Text};
 use std::alloc::Global;
@@ -233,5 +233,71 @@ fn token_step(at: usize, calls: &mut Calls<'_>, next: Next, byte: u8) -> Result<
         Next::Argument => argument_step(at, byte),
         Next::Number(sum, operator) => number_step(at, sum, operator, byte),
         Next::Operator(sum) => sum_step(at, calls, sum, byte),
+    }
+}
+
+/// The step over a byte behind a token, which may be a blank.
+fn behind_step(at: usize, calls: &mut Calls<'_>, next: Next, byte: u8) -> Result<State, ReadFault>
+    requires { at + 1 < 2 ^ 64 }
+    ensures { (source : List ℕ) → Stepped (RestToken [] next calls.old) source at byte calls.new result }
+{
+    if is_blank_byte(byte) {
+        return Ok(State::Token(&[], next));
+    }
+    token_step(at, calls, next, byte)
+}
+
+/// The step over a byte in a number or behind it.
+fn value_step(alloc: Global, at: usize, calls: &mut Calls<'_>, before: Option<(Sum, Operator)>, value: u64, byte: u8) -> Result<State, ReadFault>
+    requires room { at + 1 < 2 ^ 64 }
+    requires value { IsTrue (is_number value) }
+    ensures { (source : List ℕ) → Stepped (RestNumber before value calls.old) source at byte calls.new result }
+{
+    match digit_of(byte) {
+        Some(digit) => digit_step(at, before, value, digit),
+        None => {
+            let sum = sum_at(alloc, before, value)?;
+            behind_step(at, calls, Next::Operator(sum), byte)
+        }
+    }
+}
+
+/// The step over the byte at that place.
+fn step<'a>(alloc: Global, source: &'a [u8], at: usize, calls: &mut Calls<'a>, state: State) -> Result<State, ReadFault>
+    requires place { at < length source.now }
+    requires valid { IsState at state }
+    ensures { Stepped (Rest source.entry.now at state calls.old) source.entry.now at (slice_index source.entry.now at) calls.new result }
+{
+    let byte = source[at];
+    match state {
+        State::Token([], next) => behind_step(at, calls, next, byte),
+        State::Token([first, rest @ ..], next) => advance(at, byte == *first, State::Token(rest, next)),
+        State::Text(start) => text_step(source, at, calls, start),
+        State::Number(before, value) => value_step(alloc, at, calls, before, value, byte),
+    }
+}
+
+/// Whether the text may end there.
+fn is_between_calls(state: &State) -> bool
+    ensures { result ≡ is_between state.now }
+{
+    match state {
+        State::Token(rest, Next::Call) => rest.is_empty(),
+        _ => false,
+    }
+}
+
+fn read<'a>(alloc: Global, source: &'a [u8]) -> Result<Calls<'a>, ReadFault>
+    ensures { Reads source.entry.now result }
+{
+    let mut calls = Series::new(alloc);
+    let mut state = State::Token(DIRECTIVE, Next::Call);
+    for at in 0..source.len() {
+        state = step(alloc, source, at, &mut calls, state)?;
+    }
+    if is_between_calls(&state) {
+        Ok(calls)
+    } else {
+        Err(ReadFault::NotYet(source.len()))
     }
 }
