@@ -6,3 +6,4 @@ pub mod Spacing
 pub mod Steps
 pub mod SumSteps
 pub mod Tokens
+pub mod Weights
