@@ -1,0 +1,39 @@
+use std::fmt;
+
+/// Why a run was left: it met something that this compiler does not carry out.
+#[derive(Clone, Copy, Debug, PartialEq, Eq)]
+pub enum Left {
+    /// An operator or a conversion whose result is no safe integer.
+    NotSafe,
+    /// A built-in name or property that is not there.
+    Missing,
+    /// A primitive that would be wrapped into an object.
+    Wrapper,
+    /// Two zeros that would have to be told apart.
+    ZeroSign,
+    /// The other case of a unit of 128 or more.
+    CaseMapping,
+    /// A call that would make 10,001 calls active at once.
+    TooDeep,
+    /// A line of input of more than 16,777,215 bytes.
+    LongLine,
+}
+
+impl fmt::Display for Left {
+    ghost use Rattle.std.specs.Prelude.{Some};
+    ghost use Rattle.hz_value.specs.Leaving.{name_of_left};
+
+    ghost output = { λ left. Some (name_of_left left) };
+
+    fn fmt<W: fmt::Write>(&self, f: &mut fmt::Formatter<W>) -> fmt::Result {
+        match self {
+            Left::NotSafe => write!(f, "NotSafe"),
+            Left::Missing => write!(f, "Missing"),
+            Left::Wrapper => write!(f, "Wrapper"),
+            Left::ZeroSign => write!(f, "ZeroSign"),
+            Left::CaseMapping => write!(f, "CaseMapping"),
+            Left::TooDeep => write!(f, "TooDeep"),
+            Left::LongLine => write!(f, "LongLine"),
+        }
+    }
+}
