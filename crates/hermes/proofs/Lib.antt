@@ -7,3 +7,4 @@ pub mod Steps
 pub mod SumSteps
 pub mod Tokens
 pub mod Weights
+mod Examples

@@ -1,10 +1,10 @@
 -- What follows once a state is reached: it can be completed, and where no step leads on the source is stuck.
-use Rattle.std.proofs.Common.{◌≡◌, ℕ, zero, suc, ◌+◌, ◌-◌, ◌*◌, ◌<◌, ◌≤◌, ◌≢◌, Bool, true, false, ◌&&◌, ◌==◌, List, [], ◌∷◌, ◌++◌, length, take, drop, map, flat_map, slice_index, slice_range, refl, ap, sym, ◌∙◌, subst, append_assoc, decimal, arith, Option, Some, None, Result, Ok, Err}
+use Rattle.std.proofs.Common.{◌≡◌, ℕ, zero, suc, ◌+◌, ◌-◌, ◌*◌, ◌<◌, ◌≤◌, ◌≢◌, Bool, true, false, ◌&&◌, ◌==◌, List, [], ◌∷◌, ◌++◌, length, take, drop, map, flat_map, slice_index, slice_range, refl, ap, sym, ◌∙◌, subst, append_assoc, decimal, arith, Option, Some, None, Result, Ok, Err, IfOk, ◌⊎◌, inl, inr}
 use Rattle.std.specs.Int.{IsInRange}
 use Rattle.std.specs.List.{list_all}
 use denote.Bor.{Bor}
 use Rattle.std.proofs.lemmas.List.{take_more, drop_more, take-append-drop, take_all, take-take, drop-take}
-use Rattle.hermes.specs.FirstTexts.{directive, first_tokens, call_tokens, argument_tokens, Spaced, is_number, is_argument, IsFirst, Begins, IsStuck}
+use Rattle.hermes.specs.FirstTexts.{directive, first_tokens, call_tokens, argument_tokens, Spaced, is_number, is_argument, IsFirst, Begins, IsStuck, weight}
 use Rattle.hermes.specs.Reading.{Step, step_tokens, operator_byte, steps_of, steps_with, later_steps, Follow, FollowClose, FollowSum, Rest, RestToken, RestText, RestNumber, Moves, Halts, IsState, Stepped, IsRead, is_between, Reads}
 use Rattle.hermes.proofs.Spacing.{spaced_nil, spaced_end, begin_spaced}
 use Rattle.hermes.proofs.SumSteps.{some_sum, sum_tokens_are}
@@ -12,6 +12,7 @@ use Rattle.hermes.proofs.Tokens.{sum_solid, follow_solid, open_moves, close_move
 use Rattle.hermes.proofs.Arguments.{text_opens, number_moves, sum_ends}
 use Rattle.hermes.proofs.Digits.{text_ends, done_number}
 use Rattle.hermes.proofs.Steps.{text_length}
+use Rattle.hermes.proofs.Weights.{weighs}
 use Rattle.hermes.specs.declared.first.language.Sign.TheVariants.{Plus}
 use Rattle.hermes.specs.declared.first.language.Sum.{Sum}
 use Rattle.hermes.specs.declared.first.language.Argument.{Argument}
@@ -251,3 +252,34 @@ pub failed : (source : List ℕ) (at : ℕ) (now : State) (done new : List Argum
     Stepped (Rest source at now done) source at (slice_index source at) new (Err why) → Reads source (Err why)
 failed source at now done new (fault.NotYet n) high read x = subst (IsStuck source) (sym x.0) (halted source at now done high read x.1)
 failed source at now done new fault.Memory high read x = tt
+
+-- What reading gives is settled by the source.
+pub found_of : (source : List ℕ) (result : Result (List Argument) ReadFault) → Reads source result → IfOk result (λ calls. IsFirst calls source)
+found_of source (Ok calls) x = x.0
+found_of source (Err why) x = tt
+
+pub only_of : (source : List ℕ) (result : Result (List Argument) ReadFault) (calls : List Argument) → Reads source result → IsFirst calls source → (result ≡ Ok calls) ⊎ (result ≡ Err fault.Memory)
+only_of source (Ok found) calls x f = inl (ap (λ (y : List Argument). Ok y) (sym (x.1 calls f)))
+only_of source (Err (fault.NotYet at)) calls x f = absurd (x.none calls f)
+only_of source (Err fault.Memory) calls x f = inr refl
+
+pub stuck_of : (source : List ℕ) (result : Result (List Argument) ReadFault) (at : ℕ) → Reads source result → result ≡ Err (fault.NotYet at) → IsStuck source at
+stuck_of source result at x e = let P : Result (List Argument) ReadFault → Type 0 = Reads source in subst P e x
+
+one_place : (source : List ℕ) (m n : ℕ) → IsStuck source m → IsStuck source n → m < n → ⊥
+one_place source m n x y less = x.longest n less y.within y.begins
+
+same_place : (source : List ℕ) (m n : ℕ) → IsStuck source m → IsStuck source n → m ≡ n
+same_place source m n x y =
+    let above : m < n → ⊥ = one_place source m n x y in
+    let below : n < m → ⊥ = one_place source n m y x in
+    grind (arith, above, below)
+
+pub place_of : (source : List ℕ) (result : Result (List Argument) ReadFault) (at : ℕ) → Reads source result → IsStuck source at → (result ≡ Err (fault.NotYet at)) ⊎ (result ≡ Err fault.Memory)
+place_of source (Ok found) at x y = absurd (y.none found x.0)
+place_of source (Err (fault.NotYet n)) at x y = inl (ap (λ (m : ℕ). Err (fault.NotYet m)) (same_place source n at x y))
+place_of source (Err fault.Memory) at x y = inr refl
+
+pub weight_of_read : (source : List ℕ) (result : Result (List Argument) ReadFault) → Reads source result → IfOk result (λ calls. weight calls + 13 ≤ length source)
+weight_of_read source (Ok calls) x = weighs calls source x.0
+weight_of_read source (Err why) x = tt

@@ -1,2 +1,3 @@
 pub mod FirstTexts
+pub mod Meaning
 pub mod Reading

@@ -1,10 +1,10 @@
 // Reads a first text from its bytes, one byte after the other.
 
-ghost use Rattle.std.specs.Prelude.{◌≡◌, ◌≢◌, ◌<◌, ◌≤◌, ◌+◌, ◌^◌, ◌++◌, [], ◌∷◌, length, slice_index, slice_range, List, ℕ, IfOk, IfErr, OnOk, MatchOption, if◌then◌else◌, IsTrue, false, true, Some, None};
+ghost use Rattle.std.specs.Prelude.{◌≡◌, ◌≢◌, ◌<◌, ◌≤◌, ◌+◌, ◌^◌, ◌++◌, [], ◌∷◌, length, slice_index, slice_range, List, ℕ, ◌⊎◌, IfOk, IfErr, OnOk, MatchOption, if◌then◌else◌, IsTrue, false, true, Some, None};
 ghost use Rattle.std.specs.Int.{IsInRange};
 ghost use Rattle.hermes.specs.declared.first.language.Argument.{Argument};
 ghost use Rattle.hermes.specs.declared.first.reader.Operator.{Operator};
-ghost use Rattle.hermes.specs.FirstTexts.{is_blank, is_number, is_text_byte};
+ghost use Rattle.hermes.specs.FirstTexts.{is_blank, is_number, is_text_byte, IsFirst, IsStuck, weight};
 ghost use Rattle.hermes.specs.Reading.{operator_byte, steps_of, steps_with, Rest, RestToken, RestText, RestNumber, IsState, Stepped, IsRead, is_between, Reads};
 
 use crate::first::language::{Addend, Argument, Calls, ReadFault, Series, Sign, Sum, Term, Text};
@@ -300,4 +300,24 @@ fn read<'a>(alloc: Global, source: &'a [u8]) -> Result<Calls<'a>, ReadFault>
     } else {
         Err(ReadFault::NotYet(source.len()))
     }
+}
+
+/// Reads a first text: `"use strict";` and calls of `print` with a text or a sum, with spaces and newlines
+/// behind tokens. The texts of the result stand in the source. Time and memory are linear in the source.
+///
+/// `NotYet(at)` comes exactly where the source is no first text: `at`, in bytes, is the length of its longest
+/// prefix that begins one. `Memory` may come at any source.
+pub fn read_first(alloc: Global, source: &[u8]) -> Result<Calls<'_>, ReadFault>
+    // The whole source spells the calls that are read.
+    ensures found { IfOk result (λ calls. IsFirst calls source.now) }
+
+    // A source that spells calls gives these calls: it spells no others.
+    ensures only { (calls : List Argument) → IsFirst calls source.now → (result ≡ Ok calls) ⊎ (result ≡ Err ReadFault.Memory) }
+    ensures stuck { (at : ℕ) → result ≡ Err (ReadFault.NotYet at) → IsStuck source.now at }
+    ensures place { (at : ℕ) → IsStuck source.now at → (result ≡ Err (ReadFault.NotYet at)) ⊎ (result ≡ Err ReadFault.Memory) }
+
+    // Calls weigh no more than the source has bytes.
+    ensures weight { IfOk result (λ calls. weight calls + 13 ≤ length source.now) }
+{
+    read(alloc, source)
 }
