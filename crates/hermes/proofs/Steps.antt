@@ -11,11 +11,11 @@ use Rattle.hermes.specs.declared.first.language.Argument.{Argument}
 use Rattle.hermes.specs.declared.first.language.Argument.TheVariants as argument
 use Rattle.hermes.specs.declared.first.language.ReadFault.{ReadFault}
 use Rattle.hermes.specs.declared.first.language.ReadFault.TheVariants as fault
-use Rattle.hermes.specs.declared.first.reader.Operator.{Operator}
-use Rattle.hermes.specs.declared.first.reader.Next.{Next}
-use Rattle.hermes.specs.declared.first.reader.Next.TheVariants as next
-use Rattle.hermes.specs.declared.first.reader.State.{State}
-use Rattle.hermes.specs.declared.first.reader.State.TheVariants as state
+use Rattle.hermes.specs.declared.first.state.Operator.{Operator}
+use Rattle.hermes.specs.declared.first.state.Next.{Next}
+use Rattle.hermes.specs.declared.first.state.Next.TheVariants as next
+use Rattle.hermes.specs.declared.first.state.State.{State}
+use Rattle.hermes.specs.declared.first.state.State.TheVariants as state
 
 abbrev Left : Type 1
 Left = List ℕ → List Argument → Type 0

@@ -8,8 +8,8 @@ use Rattle.hermes.specs.declared.first.language.Sign.TheVariants.{Plus}
 use Rattle.hermes.specs.declared.first.language.Term.{Term}
 use Rattle.hermes.specs.declared.first.language.Addend.{Addend}
 use Rattle.hermes.specs.declared.first.language.Sum.{Sum}
-use Rattle.hermes.specs.declared.first.reader.Operator.{Operator}
-use Rattle.hermes.specs.declared.first.reader.Operator.TheVariants as operator
+use Rattle.hermes.specs.declared.first.state.Operator.{Operator}
+use Rattle.hermes.specs.declared.first.state.Operator.TheVariants as operator
 
 -- The other factors of the term that the steps go on with, and the addends behind it.
 abbrev Parts : Type 0

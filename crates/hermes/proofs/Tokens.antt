@@ -12,10 +12,10 @@ use Rattle.hermes.specs.declared.first.language.Sign.TheVariants.{Plus, Minus}
 use Rattle.hermes.specs.declared.first.language.Sum.{Sum}
 use Rattle.hermes.specs.declared.first.language.Argument.{Argument}
 use Rattle.hermes.specs.declared.first.language.Argument.TheVariants as argument
-use Rattle.hermes.specs.declared.first.reader.Operator.{Operator}
-use Rattle.hermes.specs.declared.first.reader.Operator.TheVariants as operator
-use Rattle.hermes.specs.declared.first.reader.Next.{Next}
-use Rattle.hermes.specs.declared.first.reader.Next.TheVariants as next
+use Rattle.hermes.specs.declared.first.state.Operator.{Operator}
+use Rattle.hermes.specs.declared.first.state.Operator.TheVariants as operator
+use Rattle.hermes.specs.declared.first.state.Next.{Next}
+use Rattle.hermes.specs.declared.first.state.Next.TheVariants as next
 
 -- No token that may follow begins with a blank.
 begins_solid : (x : ℕ) (token : List ℕ) (tokens rest : List (List ℕ)) → is_blank x ≡ false → tokens ≡ (x ∷ token) ∷ rest → Solid tokens

@@ -2,3 +2,6 @@
 
 pub mod language;
 pub mod reader;
+mod state;
+mod steps;
+mod sums;

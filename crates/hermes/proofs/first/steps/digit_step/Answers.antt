@@ -1,6 +1,6 @@
 use Rattle.std.proofs.Common.{arith, refl, ℕ, ◌+◌, ◌<◌, ◌≡◌, sym, subst}
 use Rattle.hermes.proofs.Steps.{digit_longer, no_zero_in_front, too_large}
-use Rattle.hermes.proofs.first.reader.digit_step.Goals as goal
+use Rattle.hermes.proofs.first.steps.digit_step.Goals as goal
 
 pub returns-then-value-eq0 : goal.returns-then-value-eq0
 returns-then-value-eq0 c = λ source done. (refl, no_zero_in_front c.args.before c.args.value c.args.digit done c.requires.digit c.if-value-eq0.true)

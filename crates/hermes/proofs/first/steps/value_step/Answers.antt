@@ -1,7 +1,7 @@
 use Rattle.hermes.proofs.Digits.{number_done, done_number}
 use Rattle.hermes.proofs.Steps.{at_digit, step_from}
 use Rattle.std.proofs.Common.{◌∷◌}
-use Rattle.hermes.proofs.first.reader.value_step.Goals as goal
+use Rattle.hermes.proofs.first.steps.value_step.Goals as goal
 
 pub returns-in-Some : goal.returns-in-Some
 returns-in-Some c = λ source.

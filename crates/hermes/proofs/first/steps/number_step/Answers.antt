@@ -1,7 +1,7 @@
 use Rattle.std.proofs.Common.{arith, refl}
 use Rattle.hermes.proofs.Arguments.{number_halts}
 use Rattle.hermes.proofs.Steps.{digit_goes_on, digit_number}
-use Rattle.hermes.proofs.first.reader.number_step.Goals as goal
+use Rattle.hermes.proofs.first.steps.number_step.Goals as goal
 
 pub returns-in-Some : goal.returns-in-Some
 returns-in-Some c = λ source done.

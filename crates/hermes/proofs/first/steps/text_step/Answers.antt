@@ -1,7 +1,7 @@
 use Rattle.std.proofs.Common.{List, ℕ, [], ◌∷◌, ◌++◌, arith, refl, ap, ◌∙◌, inl, inr}
 use Rattle.hermes.specs.declared.first.language.Argument.TheVariants as argument
 use Rattle.hermes.proofs.Steps.{text_closes, text_stops, text_step_at}
-use Rattle.hermes.proofs.first.reader.text_step.Goals as goal
+use Rattle.hermes.proofs.first.steps.text_step.Goals as goal
 
 pub returns-then-byte-eq34 : goal.returns-then-byte-eq34
 returns-then-byte-eq34 c =

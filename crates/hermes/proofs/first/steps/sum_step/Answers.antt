@@ -1,7 +1,7 @@
 use Rattle.std.proofs.Common.{arith, refl}
 use Rattle.hermes.proofs.Arguments.{sum_halts}
 use Rattle.hermes.proofs.Steps.{sum_closes, sum_goes_on}
-use Rattle.hermes.proofs.first.reader.sum_step.Goals as goal
+use Rattle.hermes.proofs.first.steps.sum_step.Goals as goal
 
 pub returns-then-byte-eq41 : goal.returns-then-byte-eq41
 returns-then-byte-eq41 c = λ source. (tt, sum_closes c.args.sum c.args.byte c.args.calls.now c.push.new.self c.if-byte-eq41.true c.in_ok-push.ensures.ok)

@@ -1,5 +1,5 @@
 use Rattle.hermes.proofs.SumSteps.{first_grown}
-use Rattle.hermes.proofs.first.reader.multiplied.Goals as goal
+use Rattle.hermes.proofs.first.sums.multiplied.Goals as goal
 
 pub returns-in_ok-push-in-None-clause-value : goal.returns-in_ok-push-in-None-clause-value
 returns-in_ok-push-in-None-clause-value c =

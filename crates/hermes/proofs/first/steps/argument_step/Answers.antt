@@ -1,7 +1,7 @@
 use Rattle.std.proofs.Common.{arith, refl}
 use Rattle.hermes.proofs.Arguments.{argument_halts}
 use Rattle.hermes.proofs.Steps.{quote_opens, digit_opens, digit_number}
-use Rattle.hermes.proofs.first.reader.argument_step.Goals as goal
+use Rattle.hermes.proofs.first.steps.argument_step.Goals as goal
 
 pub returns-then-byte-eq34 : goal.returns-then-byte-eq34
 returns-then-byte-eq34 c = λ source done. ((omega arith, omega arith), quote_opens source c.args.at c.args.byte done c.if-byte-eq34.true)
