@@ -98,15 +98,16 @@ opened_number b done r calls digit x =
     let first : s.first.first ≡ n = ap (λ (u : Step). u.1) (head_step _ _ _ _ f.3) in
     let later : later_steps s ≡ f.1 = tail_steps _ _ _ _ f.3 in
     let numbers : is_sum s ≡ true =
-        sum_numbers s ∙ both (is_number s.first.first) (list_all is_step (later_steps s)) (ap is_number first ∙ x.3) (ap (λ (us : List Step). list_all is_step us) later ∙ f.4) in
+    sum_numbers s ∙ both (is_number s.first.first) (list_all is_step (later_steps s)) (ap is_number first ∙ x.3) (ap (λ (us : List Step). list_all is_step us) later ∙ f.4) in
     let tokens : decimal n ∷ x.2 ≡ argument_tokens (argument.Sum s) ++ f.2 =
-        ap (λ (y : List (List ℕ)). decimal n ∷ y) (f.5 ∙ ap (λ (us : List Step). flat_map step_tokens us ++ f.2) (sym later))
-        ∙ ap (λ (m : ℕ). decimal m ∷ (flat_map step_tokens (later_steps s) ++ f.2)) (sym first)
-        ∙ ap (λ (y : List (List ℕ)). y ++ f.2) (sym (sum_tokens_are s)) in
+    ap (λ (y : List (List ℕ)). decimal n ∷ y) (f.5 ∙ ap (λ (us : List Step). flat_map step_tokens us ++ f.2) (sym later))
+    ∙ ap (λ (m : ℕ). decimal m ∷ (flat_map step_tokens (later_steps s) ++ f.2)) (sym first)
+    ∙ ap (λ (y : List (List ℕ)). y ++ f.2) (sym (sum_tokens_are s)) in
     (decimal n ∷ x.2, (argument.Sum s, f.2, numbers, tokens, f.6), opens_number n b x.1 x.2 r digit x.4 x.6)
   where
     head_step : (u v : Step) (us vs : List Step) → u ∷ us ≡ v ∷ vs → u ≡ v
     head_step u v us vs e = cc
+
     tail_steps : (u v : Step) (us vs : List Step) → u ∷ us ≡ v ∷ vs → us ≡ vs
     tail_steps u v us vs e = cc
 
@@ -117,14 +118,14 @@ pub text_opens : (done : List Argument) → Moves (RestToken [] next.Argument do
 unfolding Opened
 text_opens done = record {
   on = λ r calls x. elim (opening done 34 r calls refl x) [ inl y ↦ y.1 | inr y ↦ absurd (omega (arith, y.0)) ];
-  back = λ r calls x. opened_text done r calls x
+  back = λ r calls x. opened_text done r calls x;
 }
 
 pub first_number_opens : (done : List Argument) (b : ℕ) → IsInRange 48 57 b → Moves (RestToken [] next.Argument done) (RestNumber None (b - 48) done) b
 unfolding Opened
 first_number_opens done b digit = record {
   on = λ r calls x. elim (opening done b r calls (digit_solid b digit) x) [ inl y ↦ absurd (omega (arith, y.0, digit)) | inr y ↦ y.1 ];
-  back = λ r calls x. opened_number b done r calls digit x
+  back = λ r calls x. opened_number b done r calls digit x;
 }
 
 pub argument_halts : (done : List Argument) (b : ℕ) → is_blank b ≡ false → b ≢ 34 → (IsInRange 48 57 b → ⊥) → Halts (RestToken [] next.Argument done) b
@@ -135,10 +136,10 @@ argument_halts done b solid quote digit r calls x = elim (opening done b r calls
 pub number_moves : (s : Sum) (op : Operator) (done : List Argument) (b : ℕ) → IsInRange 48 57 b → Moves (RestToken [] (next.Number s op) done) (RestNumber (Some (s, op)) (b - 48) done) b
 number_moves s op done b digit = record {
   on = λ r calls x.
-    let f = x.1 in
-    let o = number_opens f.0 b x.0 f.1 r f.2 f.3 (spaced_solid b x.0 r (digit_solid b digit) x.2) in
-    (f.0, o.0, f.1, f.2, o.1, f.4, o.3);
-  back = λ r calls x. (decimal x.0 ∷ x.2, (x.0, x.2, x.3, refl, x.5), opens_number x.0 b x.1 x.2 r digit x.4 x.6)
+      let f = x.1 in
+      let o = number_opens f.0 b x.0 f.1 r f.2 f.3 (spaced_solid b x.0 r (digit_solid b digit) x.2) in
+      (f.0, o.0, f.1, f.2, o.1, f.4, o.3);
+  back = λ r calls x. (decimal x.0 ∷ x.2, (x.0, x.2, x.3, refl, x.5), opens_number x.0 b x.1 x.2 r digit x.4 x.6);
 }
 
 pub number_halts : (s : Sum) (op : Operator) (done : List Argument) (b : ℕ) → is_blank b ≡ false → (IsInRange 48 57 b → ⊥) → Halts (RestToken [] (next.Number s op) done) b
@@ -201,11 +202,14 @@ pub sum_ends : (s : Sum) (done : List Argument) → Moves (RestToken [] (next.Op
 unfolding Behind
 sum_ends s done = record {
   on = λ r calls x. elim (behind_sum (steps_of s) done x.0 calls 41 r x.1 (spaced_solid 41 x.0 r refl x.2)) [
-      inl y ↦ subst (λ (t : Sum). RestToken [] next.End (done ++ argument.Sum t ∷ []) r calls) (same_sum y.1.0 s y.1.1) y.1.2
+    | inl y ↦ subst (λ (t : Sum). RestToken [] next.End (done ++ argument.Sum t ∷ []) r calls) (same_sum y.1.0 s y.1.1) y.1.2
     | inr y ↦ absurd (omega (arith, y.1, operator_range y.0))
-    ];
-  back = λ r calls x. ((41 ∷ []) ∷ x.0, (s, [], (41 ∷ []) ∷ x.0, sym (nil_steps (steps_of s)), refl, refl, (x.0, refl, x.1)),
-    solid_spaced ((41 ∷ []) ∷ x.0) (41 ∷ r) (cons_spaced 41 [] x.0 r x.2))
+  ];
+  back = λ r calls x. (
+    (41 ∷ []) ∷ x.0,
+    (s, [], (41 ∷ []) ∷ x.0, sym (nil_steps (steps_of s)), refl, refl, (x.0, refl, x.1)),
+    solid_spaced ((41 ∷ []) ∷ x.0) (41 ∷ r) (cons_spaced 41 [] x.0 r x.2),
+  );
 }
 
 operator_back : (s : Sum) (op : Operator) (done : List Argument) (r : List ℕ) (calls : List Argument) →
@@ -216,21 +220,23 @@ operator_back s op done r calls x =
     let n : ℕ = f.0 in
     let steps : steps_of g.0 ≡ steps_of s ++ (op, n) ∷ g.1 = g.3 ∙ append_assoc (steps_of s) ((op, n) ∷ []) g.1 in
     let tokens : operator_token op ∷ x.0 ≡ flat_map step_tokens ((op, n) ∷ g.1) ++ g.2 =
-        ap (λ (y : List (List ℕ)). operator_token op ∷ y) (f.3 ∙ ap (λ (y : List (List ℕ)). decimal n ∷ y) g.5) in
+    ap (λ (y : List (List ℕ)). operator_token op ∷ y) (f.3 ∙ ap (λ (y : List (List ℕ)). decimal n ∷ y) g.5) in
     let spaced : Spaced (operator_token op ∷ x.0) (operator_byte op ∷ r) =
-        cons_spaced (operator_byte op) [] x.0 r x.2 in
-    (operator_token op ∷ x.0, (g.0, (op, n) ∷ g.1, g.2, steps, both (is_number n) (list_all is_step g.1) f.2 g.4, tokens, g.6),
-      solid_spaced (operator_token op ∷ x.0) (operator_byte op ∷ r) spaced)
+    cons_spaced (operator_byte op) [] x.0 r x.2 in (
+      operator_token op ∷ x.0,
+      (g.0, (op, n) ∷ g.1, g.2, steps, both (is_number n) (list_all is_step g.1) f.2 g.4, tokens, g.6),
+      solid_spaced (operator_token op ∷ x.0) (operator_byte op ∷ r) spaced,
+    )
 
 pub operator_moves : (s : Sum) (op : Operator) (done : List Argument) → Moves (RestToken [] (next.Operator s) done) (RestToken [] (next.Number s op) done) (operator_byte op)
 unfolding Behind
 operator_moves s op done = record {
   on = λ r calls x. elim (behind_sum (steps_of s) done x.0 calls (operator_byte op) r x.1 (spaced_solid (operator_byte op) x.0 r (operator_solid op) x.2)) [
-      inl y ↦ absurd (omega (arith, y.0, operator_range op))
+    | inl y ↦ absurd (omega (arith, y.0, operator_range op))
     | inr y ↦ subst (λ (o : Operator). RestToken [] (next.Number s o) done r calls) (sym (same_operator op y.0 y.1))
         (decimal y.2.0 ∷ y.2.1, (y.2.0, y.2.1, y.2.2, refl, y.2.3), y.2.4)
-    ];
-  back = λ r calls x. operator_back s op done r calls x
+  ];
+  back = λ r calls x. operator_back s op done r calls x;
 }
 
 pub sum_halts : (s : Sum) (done : List Argument) (b : ℕ) → is_blank b ≡ false → b ≢ 41 → ((op : Operator) → b ≢ operator_byte op) → Halts (RestToken [] (next.Operator s) done) b

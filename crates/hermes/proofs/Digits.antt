@@ -50,8 +50,11 @@ text_goes_on (y ∷ more) text done tokens calls b r short h close s =
     let longer : length (text ++ b ∷ []) ≡ length text + 1 = length-append text (b ∷ []) in
     let fits : length text + (length more + 1) ≤ 254 = omega (arith, short) in
     let room : length (text ++ b ∷ []) + length more ≤ 254 = omega arith in
-    inr (ap is_text_byte f.0 ∙ here, omega arith,
-      (more, tokens, room, others, subst (λ (t : List ℕ). FollowClose (done ++ argument.Text t ∷ []) tokens calls) whole close, f.1))
+    inr (
+      ap is_text_byte f.0 ∙ here,
+      omega arith,
+      (more, tokens, room, others, subst (λ (t : List ℕ). FollowClose (done ++ argument.Text t ∷ []) tokens calls) whole close, f.1),
+    )
 
 in_text : (text : List ℕ) (done : List Argument) (b : ℕ) (r : List ℕ) (calls : List Argument) → RestText text done (b ∷ r) calls → InText b text done r calls
 in_text text done b r calls x = text_goes_on x.0 text done x.1 calls b r x.2 x.3 x.4 x.5
@@ -60,18 +63,27 @@ text_longer : (text : List ℕ) (done : List Argument) (b : ℕ) (r : List ℕ) 
 text_longer text done b r calls good x =
     let longer : length (text ++ b ∷ []) ≡ length text + 1 = length-append text (b ∷ []) in
     let short : length (text ++ b ∷ []) + length x.0 ≤ 254 = x.2 in
-    let room : length text + (length x.0 + 1) ≤ 254 = omega arith in
-    (b ∷ x.0, x.1, omega (arith, room), both (is_text_byte b) (list_all is_text_byte x.0) good x.3,
+    let room : length text + (length x.0 + 1) ≤ 254 = omega arith in (
+      b ∷ x.0,
+      x.1,
+      omega (arith, room),
+      both (is_text_byte b) (list_all is_text_byte x.0) good x.3,
       subst (λ (t : List ℕ). FollowClose (done ++ argument.Text t ∷ []) x.1 calls) (append_assoc text (b ∷ []) x.0) x.4,
-      cons_spaced b (x.0 ++ 34 ∷ []) x.1 r x.5)
+      cons_spaced b (x.0 ++ 34 ∷ []) x.1 r x.5,
+    )
 
 pub text_ends : (text : List ℕ) (done : List Argument) → length text ≤ 254 → Moves (RestText text done) (RestToken [] next.Close (done ++ argument.Text text ∷ [])) 34
 unfolding InText
 text_ends text done short = record {
   on = λ r calls x. elim (in_text text done 34 r calls x) [ inl y ↦ y.1 | inr y ↦ absurd (no_quote y.0) ];
-  back = λ r calls x. ([], x.0, omega (arith, short), refl,
+  back = λ r calls x. (
+    [],
+    x.0,
+    omega (arith, short),
+    refl,
     subst (λ (t : List ℕ). FollowClose (done ++ argument.Text t ∷ []) x.0 calls) (sym (nil_right text)) x.1,
-    cons_spaced 34 [] x.0 r x.2)
+    cons_spaced 34 [] x.0 r x.2,
+  );
 }
   where
     no_quote : is_text_byte 34 ≡ true → ⊥
@@ -81,7 +93,7 @@ pub text_moves : (text : List ℕ) (done : List Argument) (b : ℕ) → b ≢ 34
 unfolding InText
 text_moves text done b other good = record {
   on = λ r calls x. elim (in_text text done b r calls x) [ inl y ↦ absurd (other y.0) | inr y ↦ y.2 ];
-  back = λ r calls x. text_longer text done b r calls good x
+  back = λ r calls x. text_longer text done b r calls good x;
 }
 
 pub text_halts : (text : List ℕ) (done : List Argument) (b : ℕ) → b ≢ 34 → is_text_byte b ≡ false → Halts (RestText text done) b
@@ -115,7 +127,7 @@ number_goes_on (y ∷ more) before value n done tokens calls b r hv h e f s =
     let some : 0 < value = some_digit value n b more h here in
     let fits : value * 10 + (b - 48) ≤ 9007199254740991 = front_fits n value b more h hv here in
     let whole : decimal n ≡ decimal (value * 10 + (b - 48)) ++ more =
-        here ∙ sym (append_assoc (decimal value) (b ∷ []) more) ∙ ap (λ (ds : List ℕ). ds ++ more) (sym (one_more value b some digit fits)) in
+    here ∙ sym (append_assoc (decimal value) (b ∷ []) more) ∙ ap (λ (ds : List ℕ). ds ++ more) (sym (one_more value b some digit fits)) in
     inr (digit, some, fits, (n, more, tokens, h, whole, f, g.1))
 
 in_number : (before : Option (Sum × Operator)) (value : ℕ) (done : List Argument) (b : ℕ) (r : List ℕ) (calls : List Argument) → is_number value ≡ true →
@@ -126,7 +138,7 @@ number_longer : (before : Option (Sum × Operator)) (value : ℕ) (done : List A
     RestNumber before (value * 10 + (b - 48)) done r calls → RestNumber before value done (b ∷ r) calls
 number_longer before value done b r calls digit some fits x =
     let whole : decimal x.0 ≡ decimal value ++ b ∷ x.1 =
-        x.4 ∙ ap (λ (ds : List ℕ). ds ++ x.1) (one_more value b some digit fits) ∙ append_assoc (decimal value) (b ∷ []) x.1 in
+    x.4 ∙ ap (λ (ds : List ℕ). ds ++ x.1) (one_more value b some digit fits) ∙ append_assoc (decimal value) (b ∷ []) x.1 in
     (x.0, b ∷ x.1, x.2, x.3, whole, x.5, cons_spaced b x.1 x.2 r x.6)
 
 no_digit : (before : Option (Sum × Operator)) (value : ℕ) (done : List Argument) (tokens : List (List ℕ)) (calls : List Argument) (b : ℕ) (r : List ℕ) → IsInRange 48 57 b →
@@ -140,7 +152,7 @@ pub digit_moves : (before : Option (Sum × Operator)) (value : ℕ) (done : List
 unfolding InNumber
 digit_moves before value done b hv digit some fits = record {
   on = λ r calls x. elim (in_number before value done b r calls hv x) [ inl y ↦ absurd (no_digit before value done y.0 calls b r digit y.1 y.2) | inr y ↦ y.3 ];
-  back = λ r calls x. number_longer before value done b r calls digit some fits x
+  back = λ r calls x. number_longer before value done b r calls digit some fits x;
 }
 
 pub zero_halts : (before : Option (Sum × Operator)) (done : List Argument) (b : ℕ) → IsInRange 48 57 b → Halts (RestNumber before 0 done) b
@@ -159,9 +171,9 @@ pub number_done : (before : Option (Sum × Operator)) (value : ℕ) (s : Sum) (d
 unfolding InNumber
 number_done before value s done b hv other e r calls x =
     elim (in_number before value done b r calls hv x) [
-        inl y ↦ (y.0, subst (λ (us : List Step). FollowSum us done y.0 calls) (sym e) y.1, y.2)
+      | inl y ↦ (y.0, subst (λ (us : List Step). FollowSum us done y.0 calls) (sym e) y.1, y.2)
       | inr y ↦ absurd (other y.0)
-      ]
+    ]
 
 pub done_number : (before : Option (Sum × Operator)) (value : ℕ) (s : Sum) (done : List Argument) → is_number value ≡ true → steps_of s ≡ steps_with before value →
     (r : List ℕ) (calls : List Argument) → RestToken [] (next.Operator s) done r calls → RestNumber before value done r calls

@@ -78,7 +78,7 @@ front_fits n v b more h hv e =
     let digit : digit_value b ≡ b - 48 = digit_value_is b (numeral_digit n v b more h e) in
     let split : digits_value 10 (decimal n) ≡ digits_value_after 10 (digits_value 10 (decimal v)) (b ∷ more) = ap (λ (ds : List ℕ). digits_value 10 ds) e ∙ value_after 0 (decimal v) (b ∷ more) in
     let same : n ≡ digits_value_after 10 (v * 10 + (b - 48)) more =
-        sym whole ∙ split ∙ ap (λ (m : ℕ). digits_value_after 10 m (b ∷ more)) front ∙ ap (λ (d : ℕ). digits_value_after 10 (v * 10 + d) more) digit in
+    sym whole ∙ split ∙ ap (λ (m : ℕ). digits_value_after 10 m (b ∷ more)) front ∙ ap (λ (d : ℕ). digits_value_after 10 (v * 10 + d) more) digit in
     let grows : v * 10 + (b - 48) ≤ digits_value_after 10 (v * 10 + (b - 48)) more = value_grows (v * 10 + (b - 48)) more in
     let fits : n ≤ 9007199254740991 = number_fits n h in
     omega arith

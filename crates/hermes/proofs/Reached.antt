@@ -105,13 +105,13 @@ read_start source part e = record {
   valid = tt;
   on = λ r calls x. (flat_map call_tokens calls, (calls, refl, x.parts, refl), subst (λ (p : List ℕ). Spaced (p ∷ flat_map call_tokens calls) r) (sym e) x.spelled);
   back = λ r calls x.
-    let f = x.1 in
-    let tokens : x.0 ≡ flat_map call_tokens calls = f.3 ∙ ap (λ (y : List Argument). flat_map call_tokens y) (sym f.1) in
-    let spelled : Spaced (directive ∷ x.0) r = subst (λ (p : List ℕ). Spaced (p ∷ x.0) r) e x.2 in
-    record {
-      parts = ap (λ (y : List Argument). all_arguments y) f.1 ∙ f.2;
-      spelled = subst (λ (y : List (List ℕ)). Spaced (directive ∷ y) r) tokens spelled
-    }
+      let f = x.1 in
+      let tokens : x.0 ≡ flat_map call_tokens calls = f.3 ∙ ap (λ (y : List Argument). flat_map call_tokens y) (sym f.1) in
+      let spelled : Spaced (directive ∷ x.0) r = subst (λ (p : List ℕ). Spaced (p ∷ x.0) r) e x.2 in
+      record {
+        parts = ap (λ (y : List Argument). all_arguments y) f.1 ∙ f.2;
+        spelled = subst (λ (y : List (List ℕ)). Spaced (directive ∷ y) r) tokens spelled;
+      };
 }
   where
     all_arguments : List Argument → Bool
@@ -126,7 +126,7 @@ pub read_next : (source : List ℕ) (at : ℕ) (now new : State) (done more : Li
 read_next source at now new done more high read valid moves = record {
   valid = valid;
   on = λ r calls x. moves.on r calls (read.on (slice_index source at ∷ r) calls (subst (IsFirst calls) (next_take source at r high) x));
-  back = λ r calls x. subst (IsFirst calls) (sym (next_take source at r high)) (read.back (slice_index source at ∷ r) calls (moves.back r calls x))
+  back = λ r calls x. subst (IsFirst calls) (sym (next_take source at r high)) (read.back (slice_index source at ∷ r) calls (moves.back r calls x));
 }
 
 -- no step leads on
@@ -137,7 +137,7 @@ longer_take : (source : List ℕ) (at k : ℕ) → at < length source → take (
 longer_take source at k high =
     let front : take at (take (at + suc k) source) ≡ take at source = take-take at (at + suc k) source (omega arith) in
     let back : drop at (take (at + suc k) source) ≡ slice_index source at ∷ take k (drop (at + 1) source) =
-        drop-take at (suc k) source ∙ ap (λ (y : List ℕ). take (suc k) y) (drop_more source at 0 high) in
+    drop-take at (suc k) source ∙ ap (λ (y : List ℕ). take (suc k) y) (drop_more source at 0 high) in
     sym (take-append-drop at (take (at + suc k) source))
     ∙ ap (λ (y : List ℕ). y ++ drop at (take (at + suc k) source)) front
     ∙ ap (λ (y : List ℕ). take at source ++ y) back
@@ -148,13 +148,13 @@ halted source at now done high read halts = record {
   within = omega arith;
   begins = let x = some_end source at now done (omega arith) read.valid in (x.1, x.0, read.back x.0 x.1 x.2);
   longest = λ n more within x.
-    let size : n ≡ at + suc (n - at - 1) = omega arith in
-    let k : ℕ = n - at - 1 in
-    let spelled : take n source ++ x.1 ≡ take at source ++ (slice_index source at ∷ (take k (drop (at + 1) source) ++ x.1)) =
-        ap (λ (m : ℕ). take m source ++ x.1) size
-        ∙ ap (λ (y : List ℕ). y ++ x.1) (longer_take source at k high)
-        ∙ append_assoc (take at source) (slice_index source at ∷ take k (drop (at + 1) source)) x.1 in
-    halts (take k (drop (at + 1) source) ++ x.1) x.0 (read.on (slice_index source at ∷ (take k (drop (at + 1) source) ++ x.1)) x.0 (subst (IsFirst x.0) spelled x.2))
+      let size : n ≡ at + suc (n - at - 1) = omega arith in
+      let k : ℕ = n - at - 1 in
+      let spelled : take n source ++ x.1 ≡ take at source ++ (slice_index source at ∷ (take k (drop (at + 1) source) ++ x.1)) =
+      ap (λ (m : ℕ). take m source ++ x.1) size
+      ∙ ap (λ (y : List ℕ). y ++ x.1) (longer_take source at k high)
+      ∙ append_assoc (take at source) (slice_index source at ∷ take k (drop (at + 1) source)) x.1 in
+      halts (take k (drop (at + 1) source) ++ x.1) x.0 (read.on (slice_index source at ∷ (take k (drop (at + 1) source) ++ x.1)) x.0 (subst (IsFirst x.0) spelled x.2));
 }
 
 -- at the end of the source
@@ -167,7 +167,7 @@ unfinished source n now done size read none = record {
   none = λ calls x. none calls (read.on [] calls (subst (IsFirst calls) (sym (whole_take source n size)) x));
   within = omega arith;
   begins = let x = some_end source n now done (omega arith) read.valid in (x.1, x.0, read.back x.0 x.1 x.2);
-  longest = λ m more within x. absurd (omega arith)
+  longest = λ m more within x. absurd (omega arith);
 }
 
 sum_goes_on : (more : List Step) (tokens rest : List (List ℕ)) (rest' : List (List ℕ)) → tokens ≡ flat_map step_tokens more ++ rest → rest ≡ (41 ∷ []) ∷ rest' → tokens ≡ [] → ⊥
@@ -231,14 +231,15 @@ nothing (y ∷ part) h = absurd (bad (length part) h)
 pub between : (source : List ℕ) (n : ℕ) (now : State) (done : List Argument) → n ≡ length source → is_between now ≡ true → IsRead source n now done → Reads source (Ok done)
 between source n (state.Token part next.Call) done size h read =
     let empty : part.now ≡ [] = nothing part.now h in
-    let here : RestToken part.now next.Call done [] done = subst (λ (p : List ℕ). RestToken p next.Call done [] done) (sym empty) (call_end done) in
-    (subst (IsFirst done) (whole_take source n size) (read.back [] done here),
+    let here : RestToken part.now next.Call done [] done = subst (λ (p : List ℕ). RestToken p next.Call done [] done) (sym empty) (call_end done) in (
+      subst (IsFirst done) (whole_take source n size) (read.back [] done here),
       λ calls x.
-        let y = read.on [] calls (subst (IsFirst calls) (sym (whole_take source n size)) x) in
-        let spaced : Spaced ([] ∷ y.0) [] = subst (λ (p : List ℕ). Spaced (p ∷ y.0) []) empty y.2 in
-        let none : y.0 ≡ [] = spaced_end y.0 (follow_solid next.Call done y.0 calls y.1) spaced in
-        let end : y.1.0 ≡ [] = no_more y.1.0 (sym y.1.3 ∙ none) in
-        y.1.1 ∙ ap (λ (more : List Argument). done ++ more) end ∙ nil_calls done)
+          let y = read.on [] calls (subst (IsFirst calls) (sym (whole_take source n size)) x) in
+          let spaced : Spaced ([] ∷ y.0) [] = subst (λ (p : List ℕ). Spaced (p ∷ y.0) []) empty y.2 in
+          let none : y.0 ≡ [] = spaced_end y.0 (follow_solid next.Call done y.0 calls y.1) spaced in
+          let end : y.1.0 ≡ [] = no_more y.1.0 (sym y.1.3 ∙ none) in
+          y.1.1 ∙ ap (λ (more : List Argument). done ++ more) end ∙ nil_calls done,
+    )
 between source n (state.Token part next.Open) done size h read = cc
 between source n (state.Token part next.Argument) done size h read = cc
 between source n (state.Token part next.Close) done size h read = cc

@@ -31,11 +31,12 @@ pub advance_step : (old : Left) (source : List ℕ) (at b x : ℕ) (done : List 
     Stepped old source at b done result
 advance_step old source at b x done new result e valid moves halts =
     subst (Stepped old source at b done) (sym e) (chosen old source at b done new (b == x)
-      (λ same. (valid, subst (λ (y : ℕ). Moves old (Rest source (at + 1) new done) y) (equal same) moves))
-      (λ other. halts (unequal other)))
+    (λ same. (valid, subst (λ (y : ℕ). Moves old (Rest source (at + 1) new done) y) (equal same) moves))
+    (λ other. halts (unequal other)))
   where
     equal : (b == x) ≡ true → x ≡ b
     equal same = grind (arith, same)
+
     unequal : (b == x) ≡ false → b ≢ x
     unequal other e = grind (arith, other, e)
 
@@ -46,7 +47,7 @@ nothing_yet xs n = let none : n - n ≡ 0 = omega arith in ap (λ (k : ℕ). tak
 pub quote_opens : (source : List ℕ) (at b : ℕ) (done : List Argument) → b ≡ 34 → Moves (RestToken [] next.Argument done) (RestText (slice_range source (at + 1) (at + 1)) done) b
 quote_opens source at b done e =
     subst (λ (y : ℕ). Moves (RestToken [] next.Argument done) (RestText (slice_range source (at + 1) (at + 1)) done) y) (sym e)
-      (subst (λ (t : List ℕ). Moves (RestToken [] next.Argument done) (RestText t done) 34) (sym (nothing_yet source (at + 1))) (text_opens done))
+    (subst (λ (t : List ℕ). Moves (RestToken [] next.Argument done) (RestText t done) 34) (sym (nothing_yet source (at + 1))) (text_opens done))
 
 digit_in : (b d : ℕ) → d < 10 → b ≡ 48 + d → IsInRange 48 57 b
 digit_in b d small e = (omega arith, omega arith)
@@ -69,7 +70,7 @@ digit_goes_on s op b d done small e =
 pub sum_closes : (s : Sum) (b : ℕ) (done new : List Argument) → b ≡ 41 → new ≡ done ++ argument.Sum s ∷ [] → Moves (RestToken [] (next.Operator s) done) (RestToken [] next.End new) b
 sum_closes s b done new e f =
     subst (λ (y : ℕ). Moves (RestToken [] (next.Operator s) done) (RestToken [] next.End new) y) (sym e)
-      (subst (λ (ys : List Argument). Moves (RestToken [] (next.Operator s) done) (RestToken [] next.End ys) 41) (sym f) (sum_ends s done))
+    (subst (λ (ys : List Argument). Moves (RestToken [] (next.Operator s) done) (RestToken [] next.End ys) 41) (sym f) (sum_ends s done))
 
 pub sum_goes_on : (s : Sum) (op : Operator) (b : ℕ) (done : List Argument) → b ≡ operator_byte op → Moves (RestToken [] (next.Operator s) done) (RestToken [] (next.Number s op) done) b
 sum_goes_on s op b done e = subst (λ (y : ℕ). Moves (RestToken [] (next.Operator s) done) (RestToken [] (next.Number s op) done) y) (sym e) (operator_moves s op done)
@@ -92,22 +93,22 @@ pub text_closes : (source : List ℕ) (start at : ℕ) (done new : List Argument
 text_closes source start at done new low short high e f =
     let size : length (slice_range source start at) ≡ at - start = text_length source start at low (omega arith) in
     subst (λ (y : ℕ). Moves (RestText (slice_range source start at) done) (RestToken [] next.Close new) y) (sym e)
-      (subst (λ (ys : List Argument). Moves (RestText (slice_range source start at) done) (RestToken [] next.Close ys) 34) (sym f)
-        (text_ends (slice_range source start at) done (omega arith)))
+    (subst (λ (ys : List Argument). Moves (RestText (slice_range source start at) done) (RestToken [] next.Close ys) 34) (sym f)
+    (text_ends (slice_range source start at) done (omega arith)))
 
 pub text_goes_on : (source : List ℕ) (start at : ℕ) (done : List Argument) → start ≤ at → at < length source → slice_index source at ≢ 34 → is_text_byte (slice_index source at) ≡ true →
     Moves (RestText (slice_range source start at) done) (RestText (slice_range source start (at + 1)) done) (slice_index source at)
 text_goes_on source start at done low high other good =
     subst (λ (t : List ℕ). Moves (RestText (slice_range source start at) done) (RestText t done) (slice_index source at)) (sym (more_text source start at low high))
-      (text_moves (slice_range source start at) done (slice_index source at) other good)
+    (text_moves (slice_range source start at) done (slice_index source at) other good)
 
 pub text_stops : (source : List ℕ) (start at : ℕ) (done : List Argument) → start ≤ at → at < length source → slice_index source at ≢ 34 → (254 ≤ at - start) ⊎ (is_text_byte (slice_index source at) ≡ false) →
     Halts (RestText (slice_range source start at) done) (slice_index source at)
 text_stops source start at done low high other why =
     elim why [
-        inl full ↦ let size : length (slice_range source start at) ≡ at - start = text_length source start at low (omega arith) in text_full (slice_range source start at) done (slice_index source at) other (omega arith)
+      | inl full ↦ let size : length (slice_range source start at) ≡ at - start = text_length source start at low (omega arith) in text_full (slice_range source start at) done (slice_index source at) other (omega arith)
       | inr bad ↦ text_halts (slice_range source start at) done (slice_index source at) other bad
-      ]
+    ]
 
 -- in a number
 pub no_zero_in_front : (before : Option (Sum × Operator)) (value d : ℕ) (done : List Argument) → d < 10 → value ≡ 0 → Halts (RestNumber before value done) (48 + d)
@@ -123,19 +124,20 @@ pub digit_longer : (before : Option (Sum × Operator)) (value d : ℕ) (done : L
     (is_number (value * 10 + d) ≡ true) × Moves (RestNumber before value done) (RestNumber before (value * 10 + d) done) (48 + d)
 digit_longer before value d done h small some fits =
     let same : 48 + d - 48 ≡ d = digit_value_is (48 + d) d refl in
-    let positive : 0 < value = grind (arith, some) in
-    (grind (arith, fits),
+    let positive : 0 < value = grind (arith, some) in (
+      grind (arith, fits),
       subst (λ (v : ℕ). Moves (RestNumber before value done) (RestNumber before (value * 10 + v) done) (48 + d)) same
-        (digit_moves before value done (48 + d) h (digit_in (48 + d) d small refl) positive (omega arith)))
+          (digit_moves before value done (48 + d) h (digit_in (48 + d) d small refl) positive (omega arith)),
+    )
 
 pub text_step_at : (source : List ℕ) (start at : ℕ) (done : List Argument) (good : Bool) (result : Result State ReadFault) → start ≤ at → at < start + 254 → at < length source →
     slice_index source at ≢ 34 → good ≡ is_text_byte (slice_index source at) → result ≡ (if good then Ok (state.Text start) else Err (fault.NotYet at)) →
     Stepped (RestText (slice_range source start at) done) source at (slice_index source at) done result
 text_step_at source start at done good result low short high other tells e =
     subst (Stepped (RestText (slice_range source start at) done) source at (slice_index source at) done) (sym e)
-      (chosen (RestText (slice_range source start at) done) source at (slice_index source at) done (state.Text start) good
-        (λ yes. ((omega arith, omega arith), text_goes_on source start at done low high other (sym tells ∙ yes)))
-        (λ no. text_stops source start at done low high other (inr (sym tells ∙ no))))
+    (chosen (RestText (slice_range source start at) done) source at (slice_index source at) done (state.Text start) good
+    (λ yes. ((omega arith, omega arith), text_goes_on source start at done low high other (sym tells ∙ yes)))
+    (λ no. text_stops source start at done low high other (inr (sym tells ∙ no))))
 
 pub at_next : (source : List ℕ) (at b : ℕ) (done new : List Argument) (after other : Next) (result : Result State ReadFault) → after ≡ other →
     Stepped (RestToken [] other done) source at b new result → Stepped (RestToken [] after done) source at b new result

@@ -133,11 +133,11 @@ first_more s n e =
     let front : List Step = map times s.first.others in
     let none : flat_map addend_steps s.others ≡ [] = ap (λ (y : List Addend). flat_map addend_steps y) e in
     let before : map times (s.first.others ++ n ∷ []) ++ flat_map addend_steps s.others ≡ (front ++ flat_map addend_steps s.others) ++ times n ∷ [] =
-        ap (λ (y : List Step). map times (s.first.others ++ n ∷ []) ++ y) none
-        ∙ nil_steps (map times (s.first.others ++ n ∷ []))
-        ∙ times_more s.first.others n
-        ∙ ap (λ (y : List Step). y ++ times n ∷ []) (sym (nil_steps front))
-        ∙ ap (λ (y : List Step). (front ++ y) ++ times n ∷ []) (sym none) in
+    ap (λ (y : List Step). map times (s.first.others ++ n ∷ []) ++ y) none
+    ∙ nil_steps (map times (s.first.others ++ n ∷ []))
+    ∙ times_more s.first.others n
+    ∙ ap (λ (y : List Step). y ++ times n ∷ []) (sym (nil_steps front))
+    ∙ ap (λ (y : List Step). (front ++ y) ++ times n ∷ []) (sym none) in
     ap (λ (y : List Step). (operator.Sign Plus, s.first.first) ∷ y) before
 
 pub last_more : (s : Sum) (rs : List Addend) (a : Addend) (n : ℕ) → s.others ≡ rs ++ a ∷ [] →
@@ -147,9 +147,9 @@ last_more s rs a n e =
     let longer : Addend = record a { term = record a.term { others = a.term.others ++ n ∷ [] } } in
     let last : addend_steps longer ≡ addend_steps a ++ times n ∷ [] = ap (λ (y : List Step). (operator.Sign a.sign, a.term.first) ∷ y) (times_more a.term.others n) in
     let new : flat_map addend_steps (rs ++ longer ∷ []) ≡ (flat_map addend_steps rs ++ addend_steps a) ++ times n ∷ [] =
-        flat_more rs longer
-        ∙ ap (λ (y : List Step). flat_map addend_steps rs ++ y) last
-        ∙ sym (append_assoc (flat_map addend_steps rs) (addend_steps a) (times n ∷ [])) in
+    flat_more rs longer
+    ∙ ap (λ (y : List Step). flat_map addend_steps rs ++ y) last
+    ∙ sym (append_assoc (flat_map addend_steps rs) (addend_steps a) (times n ∷ [])) in
     let old : flat_map addend_steps s.others ≡ flat_map addend_steps rs ++ addend_steps a = ap (λ (y : List Addend). flat_map addend_steps y) e ∙ flat_more rs a in
     ap (λ (y : List Step). (operator.Sign Plus, s.first.first) ∷ (front ++ y)) (new ∙ ap (λ (y : List Step). y ++ times n ∷ []) (sym old))
     ∙ ap (λ (y : List Step). (operator.Sign Plus, s.first.first) ∷ y) (sym (append_assoc front (flat_map addend_steps s.others) (times n ∷ [])))

@@ -63,14 +63,14 @@ follow_solid (next.Number s op) done tokens calls f = number_solid f.0 tokens f.
 pub blank_moves : (after : Next) (done : List Argument) (b : ℕ) → is_blank b ≡ true → Moves (RestToken [] after done) (RestToken [] after done) b
 blank_moves after done b blank = record {
   on = λ r calls x. (x.0, x.1, spaced_blank b x.0 r (follow_solid after done x.0 calls x.1) blank x.2);
-  back = λ r calls x. (x.0, x.1, blank_spaced b x.0 r blank x.2)
+  back = λ r calls x. (x.0, x.1, blank_spaced b x.0 r blank x.2);
 }
 
 -- in a token of fixed bytes
 pub token_moves : (x : ℕ) (part : List ℕ) (after : Next) (done : List Argument) → Moves (RestToken (x ∷ part) after done) (RestToken part after done) x
 token_moves x part after done = record {
   on = λ r calls y. (y.0, y.1, (spaced_cons x x part y.0 r y.2).1);
-  back = λ r calls y. (y.0, y.1, cons_spaced x part y.0 r y.2)
+  back = λ r calls y. (y.0, y.1, cons_spaced x part y.0 r y.2);
 }
 
 pub token_halts : (x : ℕ) (part : List ℕ) (after : Next) (done : List Argument) (b : ℕ) → b ≢ x → Halts (RestToken (x ∷ part) after done) b
@@ -83,7 +83,7 @@ fixed x b part tokens rest r e s = spaced_cons x b part rest r (subst (λ (y : L
 pub end_moves : (done : List Argument) → Moves (RestToken [] next.End done) (RestToken [] next.Call done) 59
 end_moves done = record {
   on = λ r calls x. (x.1.0, x.1.2, (fixed 59 59 [] x.0 x.1.0 r x.1.1 (spaced_solid 59 x.0 r refl x.2)).1);
-  back = λ r calls x. ((59 ∷ []) ∷ x.0, (x.0, refl, x.1), solid_spaced ((59 ∷ []) ∷ x.0) (59 ∷ r) (cons_spaced 59 [] x.0 r x.2))
+  back = λ r calls x. ((59 ∷ []) ∷ x.0, (x.0, refl, x.1), solid_spaced ((59 ∷ []) ∷ x.0) (59 ∷ r) (cons_spaced 59 [] x.0 r x.2));
 }
 
 pub end_halts : (done : List Argument) (b : ℕ) → is_blank b ≡ false → b ≢ 59 → Halts (RestToken [] next.End done) b
@@ -92,7 +92,7 @@ end_halts done b solid other r calls x = other (fixed 59 b [] x.0 x.1.0 r x.1.1 
 pub close_moves : (done : List Argument) → Moves (RestToken [] next.Close done) (RestToken [] next.End done) 41
 close_moves done = record {
   on = λ r calls x. (x.1.0, x.1.2, (fixed 41 41 [] x.0 x.1.0 r x.1.1 (spaced_solid 41 x.0 r refl x.2)).1);
-  back = λ r calls x. ((41 ∷ []) ∷ x.0, (x.0, refl, x.1), solid_spaced ((41 ∷ []) ∷ x.0) (41 ∷ r) (cons_spaced 41 [] x.0 r x.2))
+  back = λ r calls x. ((41 ∷ []) ∷ x.0, (x.0, refl, x.1), solid_spaced ((41 ∷ []) ∷ x.0) (41 ∷ r) (cons_spaced 41 [] x.0 r x.2));
 }
 
 pub close_halts : (done : List Argument) (b : ℕ) → is_blank b ≡ false → b ≢ 41 → Halts (RestToken [] next.Close done) b
@@ -101,7 +101,7 @@ close_halts done b solid other r calls x = other (fixed 41 b [] x.0 x.1.0 r x.1.
 pub open_moves : (done : List Argument) → Moves (RestToken [] next.Open done) (RestToken [] next.Argument done) 40
 open_moves done = record {
   on = λ r calls x. (x.1.0, x.1.2, (fixed 40 40 [] x.0 x.1.0 r x.1.1 (spaced_solid 40 x.0 r refl x.2)).1);
-  back = λ r calls x. ((40 ∷ []) ∷ x.0, (x.0, refl, x.1), solid_spaced ((40 ∷ []) ∷ x.0) (40 ∷ r) (cons_spaced 40 [] x.0 r x.2))
+  back = λ r calls x. ((40 ∷ []) ∷ x.0, (x.0, refl, x.1), solid_spaced ((40 ∷ []) ∷ x.0) (40 ∷ r) (cons_spaced 40 [] x.0 r x.2));
 }
 
 pub open_halts : (done : List Argument) (b : ℕ) → is_blank b ≡ false → b ≢ 40 → Halts (RestToken [] next.Open done) b
@@ -126,11 +126,24 @@ call_opens (a ∷ more) done tokens calls b r e h t s =
     let inner : List (List ℕ) = (front ++ (41 ∷ []) ∷ (59 ∷ []) ∷ []) ++ behind in
     let parts = all_after is_argument a more h in
     let f = fixed 112 b (codes "rint") tokens ((40 ∷ []) ∷ inner) r t s in
-    let all : calls ≡ (done ++ a ∷ []) ++ more = e ∙ sym (append_assoc done (a ∷ []) more) in
-    (f.0, ((40 ∷ []) ∷ inner,
-      (inner, refl, (a, (41 ∷ []) ∷ (59 ∷ []) ∷ behind, parts.0, append_assoc front ((41 ∷ []) ∷ (59 ∷ []) ∷ []) behind,
-        ((59 ∷ []) ∷ behind, refl, (behind, refl, (more, all, parts.1, refl))))),
-      f.1))
+    let all : calls ≡ (done ++ a ∷ []) ++ more = e ∙ sym (append_assoc done (a ∷ []) more) in (
+      f.0,
+      (
+        (40 ∷ []) ∷ inner,
+        (
+          inner,
+          refl,
+          (
+            a,
+            (41 ∷ []) ∷ (59 ∷ []) ∷ behind,
+            parts.0,
+            append_assoc front ((41 ∷ []) ∷ (59 ∷ []) ∷ []) behind,
+            ((59 ∷ []) ∷ behind, refl, (behind, refl, (more, all, parts.1, refl))),
+          ),
+        ),
+        f.1,
+      ),
+    )
 
 opened : (done : List Argument) (r : List ℕ) (calls : List Argument) → RestToken (codes "rint") next.Open done r calls → RestToken [] next.Call done (112 ∷ r) calls
 opened done r calls x =
@@ -141,18 +154,20 @@ opened done r calls x =
     let k = h.2.2 in
     let more : List Argument = k.0 in
     let tokens : codes "print" ∷ x.0 ≡ flat_map call_tokens (a ∷ more) =
-        ap (λ (y : List (List ℕ)). codes "print" ∷ y) f.1
-        ∙ ap (λ (y : List (List ℕ)). codes "print" ∷ (40 ∷ []) ∷ y) g.3
-        ∙ ap (λ (y : List (List ℕ)). codes "print" ∷ (40 ∷ []) ∷ (argument_tokens a ++ y)) (h.1 ∙ ap (λ (y : List (List ℕ)). (41 ∷ []) ∷ y) (h.2.1 ∙ ap (λ (y : List (List ℕ)). (59 ∷ []) ∷ y) k.3))
-        ∙ ap (λ (y : List (List ℕ)). codes "print" ∷ (40 ∷ []) ∷ y) (sym (append_assoc (argument_tokens a) ((41 ∷ []) ∷ (59 ∷ []) ∷ []) (flat_map call_tokens more))) in
-    let all : calls ≡ done ++ (a ∷ more) = k.1 ∙ append_assoc done (a ∷ []) more in
-    (codes "print" ∷ x.0, (a ∷ more, all, both (is_argument a) (list_all is_argument more) g.2 k.2, tokens),
-      solid_spaced (codes "print" ∷ x.0) (112 ∷ r) (cons_spaced 112 (codes "rint") x.0 r x.2))
+    ap (λ (y : List (List ℕ)). codes "print" ∷ y) f.1
+    ∙ ap (λ (y : List (List ℕ)). codes "print" ∷ (40 ∷ []) ∷ y) g.3
+    ∙ ap (λ (y : List (List ℕ)). codes "print" ∷ (40 ∷ []) ∷ (argument_tokens a ++ y)) (h.1 ∙ ap (λ (y : List (List ℕ)). (41 ∷ []) ∷ y) (h.2.1 ∙ ap (λ (y : List (List ℕ)). (59 ∷ []) ∷ y) k.3))
+    ∙ ap (λ (y : List (List ℕ)). codes "print" ∷ (40 ∷ []) ∷ y) (sym (append_assoc (argument_tokens a) ((41 ∷ []) ∷ (59 ∷ []) ∷ []) (flat_map call_tokens more))) in
+    let all : calls ≡ done ++ (a ∷ more) = k.1 ∙ append_assoc done (a ∷ []) more in (
+      codes "print" ∷ x.0,
+      (a ∷ more, all, both (is_argument a) (list_all is_argument more) g.2 k.2, tokens),
+      solid_spaced (codes "print" ∷ x.0) (112 ∷ r) (cons_spaced 112 (codes "rint") x.0 r x.2),
+    )
 
 pub call_moves : (done : List Argument) → Moves (RestToken [] next.Call done) (RestToken (codes "rint") next.Open done) 112
 call_moves done = record {
   on = λ r calls x. (call_opens x.1.0 done x.0 calls 112 r x.1.1 x.1.2 x.1.3 (spaced_solid 112 x.0 r refl x.2)).1;
-  back = λ r calls x. opened done r calls x
+  back = λ r calls x. opened done r calls x;
 }
 
 pub call_halts : (done : List Argument) (b : ℕ) → is_blank b ≡ false → b ≢ 112 → Halts (RestToken [] next.Call done) b

@@ -62,7 +62,7 @@ addends_length (a ∷ rs) =
 later_length : (s : Sum) → length (later_steps s) ≡ further_numbers s
 later_length s =
     let both : length (map times s.first.others ++ flat_map addend_steps s.others) ≡ length (map times s.first.others) + length (flat_map addend_steps s.others) =
-        length-append (map times s.first.others) (flat_map addend_steps s.others) in
+    length-append (map times s.first.others) (flat_map addend_steps s.others) in
     let terms = map_length s.first.others in
     let addends = addends_length s.others in
     both ∙ ap (λ (n : ℕ). n + length (flat_map addend_steps s.others)) terms ∙ ap (λ (n : ℕ). length s.first.others + n) addends

@@ -5,3 +5,5 @@ pub mod reader;
 mod state;
 mod steps;
 mod sums;
+#[cfg(test)]
+mod tests;

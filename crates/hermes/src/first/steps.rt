@@ -55,7 +55,12 @@ fn operator_of(byte: u8) -> Option<Operator>
 }
 
 /// The step over a byte of a text whose bytes begin at `start`. Its closing quote adds it to the calls.
-fn text_step<'a>(source: &'a [u8], at: usize, calls: &mut Calls<'a>, start: usize) -> Result<State, ReadFault>
+fn text_step<'a>(
+    source: &'a [u8],
+    at: usize,
+    calls: &mut Calls<'a>,
+    start: usize,
+) -> Result<State, ReadFault>
     requires place { at < length source.now }
     requires valid { IsState at (State.Text start) }
     ensures { Stepped (RestText (slice_range source.entry.now start at) calls.old) source.entry.now at (slice_index source.entry.now at) calls.new result }
@@ -72,7 +77,12 @@ fn text_step<'a>(source: &'a [u8], at: usize, calls: &mut Calls<'a>, start: usiz
 }
 
 /// The step over a digit of that value in a number.
-fn digit_step(at: usize, before: Option<(Sum, Operator)>, value: u64, digit: u64) -> Result<State, ReadFault>
+fn digit_step(
+    at: usize,
+    before: Option<(Sum, Operator)>,
+    value: u64,
+    digit: u64,
+) -> Result<State, ReadFault>
     requires value { IsTrue (is_number value) }
     requires digit { digit < 10 }
     ensures { (source : List ℕ) (done : List Argument) → Stepped (RestNumber before value done) source at (48 + digit) done result }
@@ -132,7 +142,11 @@ fn number_step(at: usize, sum: Sum, operator: Operator, byte: u8) -> Result<Stat
 fn advance(at: usize, fits: bool, state: State) -> Result<State, ReadFault>
     ensures { result ≡ (if fits then Ok state else Err (ReadFault.NotYet at)) }
 {
-    if fits { Ok(state) } else { Err(ReadFault::NotYet(at)) }
+    if fits {
+        Ok(state)
+    } else {
+        Err(ReadFault::NotYet(at))
+    }
 }
 
 /// The step over the first byte of a token.
@@ -164,7 +178,14 @@ fn behind_step(at: usize, calls: &mut Calls<'_>, next: Next, byte: u8) -> Result
 }
 
 /// The step over a byte in a number or behind it.
-fn value_step(alloc: Global, at: usize, calls: &mut Calls<'_>, before: Option<(Sum, Operator)>, value: u64, byte: u8) -> Result<State, ReadFault>
+fn value_step(
+    alloc: Global,
+    at: usize,
+    calls: &mut Calls<'_>,
+    before: Option<(Sum, Operator)>,
+    value: u64,
+    byte: u8,
+) -> Result<State, ReadFault>
     requires room { at + 1 < 2 ^ 64 }
     requires value { IsTrue (is_number value) }
     ensures { (source : List ℕ) → Stepped (RestNumber before value calls.old) source at byte calls.new result }
@@ -179,7 +200,13 @@ fn value_step(alloc: Global, at: usize, calls: &mut Calls<'_>, before: Option<(S
 }
 
 /// The step over the byte at that place.
-pub(crate) fn step<'a>(alloc: Global, source: &'a [u8], at: usize, calls: &mut Calls<'a>, state: State) -> Result<State, ReadFault>
+pub(crate) fn step<'a>(
+    alloc: Global,
+    source: &'a [u8],
+    at: usize,
+    calls: &mut Calls<'a>,
+    state: State,
+) -> Result<State, ReadFault>
     requires place { at < length source.now }
     requires valid { IsState at state }
     ensures { Stepped (Rest source.entry.now at state calls.old) source.entry.now at (slice_index source.entry.now at) calls.new result }
@@ -187,7 +214,11 @@ pub(crate) fn step<'a>(alloc: Global, source: &'a [u8], at: usize, calls: &mut C
     let byte = source[at];
     match state {
         State::Token([], next) => behind_step(at, calls, next, byte),
-        State::Token([first, rest @ ..], next) => advance(at, byte == *first, State::Token(rest, next)),
+        State::Token([first, rest @ ..], next) => advance(
+            at,
+            byte == *first,
+            State::Token(rest, next),
+        ),
         State::Text(start) => text_step(source, at, calls, start),
         State::Number(before, value) => value_step(alloc, at, calls, before, value, byte),
     }

@@ -32,7 +32,10 @@ fn extended(alloc: Global, mut sum: Sum, operator: Operator, number: u64) -> Res
 {
     match operator {
         Operator::Sign(sign) => {
-            let term = Term { first: number, others: Series::new(alloc) };
+            let term = Term {
+                first: number,
+                others: Series::new(alloc),
+            };
             sum.others.push(Addend { sign, term })?;
             Ok(sum)
         }
@@ -41,14 +44,21 @@ fn extended(alloc: Global, mut sum: Sum, operator: Operator, number: u64) -> Res
 }
 
 /// The sum that ends with this number.
-pub(crate) fn sum_at(alloc: Global, before: Option<(Sum, Operator)>, number: u64) -> Result<Sum, ReadFault>
+pub(crate) fn sum_at(
+    alloc: Global,
+    before: Option<(Sum, Operator)>,
+    number: u64,
+) -> Result<Sum, ReadFault>
     ensures value { IfOk result (λ s. steps_of s ≡ steps_with before number) }
     ensures memory { IfErr result (λ fault. fault ≡ ReadFault.Memory) }
 {
     match before {
         Some((sum, operator)) => extended(alloc, sum, operator, number),
         None => Ok(Sum {
-            first: Term { first: number, others: Series::new(alloc) },
+            first: Term {
+                first: number,
+                others: Series::new(alloc),
+            },
             others: Series::new(alloc),
         }),
     }

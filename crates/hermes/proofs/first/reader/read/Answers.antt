@@ -18,5 +18,5 @@ pub returns : goal.returns
 returns c =
     let size : c.loop-at.at ≡ length c.args.source.now = omega arith in
     subst (IsStuck c.args.source.now) size
-      (unfinished c.args.source.now c.loop-at.at c.loop-at.state c.loop-at.calls size c.loop-at.invariant
-        (λ calls x. not_between c.args.source.now c.loop-at.at c.loop-at.state c.loop-at.calls calls (sym c.is_between_calls.ensures ∙ c.if-is_between_calls.false) x))
+    (unfinished c.args.source.now c.loop-at.at c.loop-at.state c.loop-at.calls size c.loop-at.invariant
+    (λ calls x. not_between c.args.source.now c.loop-at.at c.loop-at.state c.loop-at.calls calls (sym c.is_between_calls.ensures ∙ c.if-is_between_calls.false) x))

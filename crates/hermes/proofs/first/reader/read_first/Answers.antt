@@ -11,5 +11,5 @@ returns c =
       only = λ calls f. only_of source result calls reads f;
       stuck = λ at e. stuck_of source result at reads e;
       place = λ at y. place_of source result at reads y;
-      weight = weight_of_read source result reads
+      weight = weight_of_read source result reads;
     }

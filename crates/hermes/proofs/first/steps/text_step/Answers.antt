@@ -4,9 +4,11 @@ use Rattle.hermes.proofs.Steps.{text_closes, text_stops, text_step_at}
 use Rattle.hermes.proofs.first.steps.text_step.Goals as goal
 
 pub returns-then-byte-eq34 : goal.returns-then-byte-eq34
-returns-then-byte-eq34 c =
-    (tt, text_closes c.args.source.now c.args.start c.args.at c.args.calls.now c.push.new.self c.requires.valid.0 c.requires.valid.1 c.requires.place c.if-byte-eq34.true
-      (c.in_ok-push.ensures.ok ∙ ap (λ (t : List ℕ). c.args.calls.now ++ argument.Text t ∷ []) c.new.ensures))
+returns-then-byte-eq34 c = (
+  tt,
+  text_closes c.args.source.now c.args.start c.args.at c.args.calls.now c.push.new.self c.requires.valid.0 c.requires.valid.1 c.requires.place c.if-byte-eq34.true
+      (c.in_ok-push.ensures.ok ∙ ap (λ (t : List ℕ). c.args.calls.now ++ argument.Text t ∷ []) c.new.ensures),
+)
 
 pub returns-then-at-start-ge-MAX_TEXT : goal.returns-then-at-start-ge-MAX_TEXT
 returns-then-at-start-ge-MAX_TEXT c =
@@ -15,4 +17,4 @@ returns-then-at-start-ge-MAX_TEXT c =
 pub returns : goal.returns
 returns c =
     text_step_at c.args.source.now c.args.start c.args.at c.args.calls.now c.stands_in_text.result c.advance.result c.requires.valid.0 (omega arith) c.requires.place
-      c.if-byte-eq34.false c.stands_in_text.ensures c.advance.ensures
+    c.if-byte-eq34.false c.stands_in_text.ensures c.advance.ensures

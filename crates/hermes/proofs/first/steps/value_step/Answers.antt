@@ -11,6 +11,6 @@ pub returns-in_ok-sum-in-None : goal.returns-in_ok-sum-in-None
 returns-in_ok-sum-in-None c = λ source.
     let sum = c.in_ok-sum-in-None.sum in
     step_from _ _ source c.args.at c.args.byte c.behind_step.new.calls c.behind_step.result
-      (number_done c.args.before c.args.value sum c.args.calls.now c.args.byte c.requires.value c.in-None.ensures c.in_ok-sum-in-None.ensures.value)
-      (λ r calls x. done_number c.args.before c.args.value sum c.args.calls.now c.requires.value c.in_ok-sum-in-None.ensures.value (c.args.byte ∷ r) calls x)
-      (c.behind_step.ensures source)
+    (number_done c.args.before c.args.value sum c.args.calls.now c.args.byte c.requires.value c.in-None.ensures c.in_ok-sum-in-None.ensures.value)
+    (λ r calls x. done_number c.args.before c.args.value sum c.args.calls.now c.requires.value c.in_ok-sum-in-None.ensures.value (c.args.byte ∷ r) calls x)
+    (c.behind_step.ensures source)
