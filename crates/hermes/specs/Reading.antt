@@ -1,8 +1,7 @@
 -- What the reader of first texts has still to come, at each of its states. Only its private steps cite this.
-use Rattle.std.specs.Prelude.{◌≡◌, ℕ, ◌+◌, ◌≤◌, Bool, IsTrue, List, [], ◌∷◌, ◌++◌, length, decimal, codes, flat_map, map, slice_range, take, ◌==◌, Option, Some, None, false, Result, Ok, Err}
+use Rattle.std.specs.Prelude.{◌≡◌, ℕ, ◌+◌, ◌≤◌, Bool, IsTrue, List, [], ◌∷◌, ◌++◌, length, decimal, flat_map, map, slice_range, take, ◌==◌, Option, Some, None, false, Result, Ok, Err}
 use Rattle.std.specs.List.{list_all}
 use Rattle.hermes.specs.FirstTexts.{sign_byte, argument_tokens, call_tokens, Spaced, is_number, is_text_byte, is_argument, IsFirst, IsStuck}
-use Rattle.hermes.specs.declared.first.language.Sign.{Sign}
 use Rattle.hermes.specs.declared.first.language.Sign.TheVariants.{Plus}
 use Rattle.hermes.specs.declared.first.language.Addend.{Addend}
 use Rattle.hermes.specs.declared.first.language.Sum.{Sum}

@@ -1,8 +1,7 @@
-use Rattle.std.proofs.Common.{arith, length, ◌≡◌, ◌<◌, ℕ, sym, ap, subst, ◌∙◌, Err}
+use Rattle.std.proofs.Common.{arith, length, ◌≡◌, sym, subst, ◌∙◌}
 use Rattle.std.proofs.lemmas.Result.{err_from_is_err_and}
 use Rattle.hermes.specs.FirstTexts.{IsStuck}
-use Rattle.hermes.specs.Reading.{Reads}
-use Rattle.hermes.proofs.Reached.{failed, between, not_between, unfinished}
+use Rattle.hermes.proofs.reading.Reached.{failed, between, not_between, unfinished}
 use Rattle.hermes.proofs.first.reader.read.Goals as goal
 
 pub returns-in_err-state : goal.returns-in_err-state

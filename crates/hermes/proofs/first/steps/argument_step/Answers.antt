@@ -1,6 +1,6 @@
 use Rattle.std.proofs.Common.{arith, refl}
-use Rattle.hermes.proofs.Arguments.{argument_halts}
-use Rattle.hermes.proofs.Steps.{quote_opens, digit_opens, digit_number}
+use Rattle.hermes.proofs.reading.Arguments.{argument_halts}
+use Rattle.hermes.proofs.reading.Steps.{quote_opens, digit_opens, digit_number}
 use Rattle.hermes.proofs.first.steps.argument_step.Goals as goal
 
 pub returns-then-byte-eq34 : goal.returns-then-byte-eq34

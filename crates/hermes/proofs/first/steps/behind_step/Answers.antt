@@ -1,5 +1,5 @@
 use Rattle.std.proofs.Common.{sym, ◌∙◌}
-use Rattle.hermes.proofs.Tokens.{blank_moves}
+use Rattle.hermes.proofs.reading.Tokens.{blank_moves}
 use Rattle.hermes.proofs.first.steps.behind_step.Goals as goal
 
 pub returns-then-is_blank_byte : goal.returns-then-is_blank_byte

@@ -1,5 +1,5 @@
-use Rattle.std.proofs.Common.{arith, refl, ℕ, ◌+◌, ◌<◌, ◌≡◌, sym, subst}
-use Rattle.hermes.proofs.Steps.{digit_longer, no_zero_in_front, too_large}
+use Rattle.std.proofs.Common.{refl}
+use Rattle.hermes.proofs.reading.Steps.{digit_longer, no_zero_in_front, too_large}
 use Rattle.hermes.proofs.first.steps.digit_step.Goals as goal
 
 pub returns-then-value-eq0 : goal.returns-then-value-eq0

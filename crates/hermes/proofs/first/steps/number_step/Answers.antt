@@ -1,6 +1,6 @@
-use Rattle.std.proofs.Common.{arith, refl}
-use Rattle.hermes.proofs.Arguments.{number_halts}
-use Rattle.hermes.proofs.Steps.{digit_goes_on, digit_number}
+use Rattle.std.proofs.Common.{refl}
+use Rattle.hermes.proofs.reading.Arguments.{number_halts}
+use Rattle.hermes.proofs.reading.Steps.{digit_goes_on, digit_number}
 use Rattle.hermes.proofs.first.steps.number_step.Goals as goal
 
 pub returns-in-Some : goal.returns-in-Some

@@ -1,5 +1,4 @@
-use Rattle.std.proofs.Common.{slice_index}
-use Rattle.hermes.proofs.Steps.{at_state, at_part}
+use Rattle.hermes.proofs.reading.Steps.{at_state, at_part}
 use Rattle.hermes.proofs.first.steps.step.Goals as goal
 
 pub returns-in-Token-empty-default : goal.returns-in-Token-empty-default

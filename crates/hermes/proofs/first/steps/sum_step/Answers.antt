@@ -1,6 +1,6 @@
-use Rattle.std.proofs.Common.{arith, refl}
-use Rattle.hermes.proofs.Arguments.{sum_halts}
-use Rattle.hermes.proofs.Steps.{sum_closes, sum_goes_on}
+use Rattle.std.proofs.Common.{refl}
+use Rattle.hermes.proofs.reading.Arguments.{sum_halts}
+use Rattle.hermes.proofs.reading.Steps.{sum_closes, sum_goes_on}
 use Rattle.hermes.proofs.first.steps.sum_step.Goals as goal
 
 pub returns-then-byte-eq41 : goal.returns-then-byte-eq41

@@ -1,6 +1,6 @@
-use Rattle.std.proofs.Common.{List, ℕ, [], ◌∷◌, ◌++◌, arith, refl, ap, ◌∙◌, inl, inr}
+use Rattle.std.proofs.Common.{List, ℕ, [], ◌∷◌, ◌++◌, arith, refl, ap, ◌∙◌, inl}
 use Rattle.hermes.specs.declared.first.language.Argument.TheVariants as argument
-use Rattle.hermes.proofs.Steps.{text_closes, text_stops, text_step_at}
+use Rattle.hermes.proofs.reading.Steps.{text_closes, text_stops, text_step_at}
 use Rattle.hermes.proofs.first.steps.text_step.Goals as goal
 
 pub returns-then-byte-eq34 : goal.returns-then-byte-eq34

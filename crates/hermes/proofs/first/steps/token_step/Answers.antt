@@ -1,5 +1,5 @@
-use Rattle.hermes.proofs.Tokens.{call_moves, call_halts, open_moves, open_halts, close_moves, close_halts, end_moves, end_halts}
-use Rattle.hermes.proofs.Steps.{advance_step, at_next}
+use Rattle.hermes.proofs.reading.Tokens.{call_moves, call_halts, open_moves, open_halts, close_moves, close_halts, end_moves, end_halts}
+use Rattle.hermes.proofs.reading.Steps.{advance_step, at_next}
 use Rattle.hermes.proofs.first.steps.token_step.Goals as goal
 
 pub returns-in-Call : goal.returns-in-Call

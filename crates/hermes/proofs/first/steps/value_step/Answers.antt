@@ -1,5 +1,5 @@
-use Rattle.hermes.proofs.Digits.{number_done, done_number}
-use Rattle.hermes.proofs.Steps.{at_digit, step_from}
+use Rattle.hermes.proofs.reading.Digits.{number_done, done_number}
+use Rattle.hermes.proofs.reading.Steps.{at_digit, step_from}
 use Rattle.std.proofs.Common.{◌∷◌}
 use Rattle.hermes.proofs.first.steps.value_step.Goals as goal
 

@@ -1,4 +1,4 @@
-use Rattle.hermes.proofs.SumSteps.{first_grown}
+use Rattle.hermes.proofs.reading.SumSteps.{first_grown}
 use Rattle.hermes.proofs.first.sums.multiplied.Goals as goal
 
 pub returns-in_ok-push-in-None-clause-value : goal.returns-in_ok-push-in-None-clause-value

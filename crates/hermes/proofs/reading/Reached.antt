@@ -1,38 +1,27 @@
 -- What follows once a state is reached: it can be completed, and where no step leads on the source is stuck.
-use Rattle.std.proofs.Common.{◌≡◌, ℕ, zero, suc, ◌+◌, ◌-◌, ◌*◌, ◌<◌, ◌≤◌, ◌≢◌, Bool, true, false, ◌&&◌, ◌==◌, List, [], ◌∷◌, ◌++◌, length, take, drop, map, flat_map, slice_index, slice_range, refl, ap, sym, ◌∙◌, subst, append_assoc, decimal, arith, Option, Some, None, Result, Ok, Err, IfOk, ◌⊎◌, inl, inr}
-use Rattle.std.specs.Int.{IsInRange}
+use Rattle.std.proofs.Common.{◌≡◌, ℕ, suc, ◌+◌, ◌-◌, ◌<◌, ◌≤◌, ◌≢◌, Bool, true, false, ◌==◌, List, [], ◌∷◌, ◌++◌, length, take, drop, flat_map, slice_index, slice_range, refl, ap, sym, ◌∙◌, subst, append_assoc, decimal, arith, Option, Some, None, Result, Ok, Err, IfOk, ◌⊎◌, inl, inr}
 use Rattle.std.specs.List.{list_all}
 use denote.Bor.{Bor}
-use Rattle.std.proofs.lemmas.List.{take_more, drop_more, take-append-drop, take_all, take-take, drop-take}
-use Rattle.hermes.specs.FirstTexts.{directive, first_tokens, call_tokens, argument_tokens, Spaced, is_number, is_argument, IsFirst, Begins, IsStuck, weight}
-use Rattle.hermes.specs.Reading.{Step, step_tokens, operator_byte, steps_of, steps_with, later_steps, Follow, FollowClose, FollowSum, Rest, RestToken, RestText, RestNumber, Moves, Halts, IsState, Stepped, IsRead, is_between, Reads}
-use Rattle.hermes.proofs.Spacing.{spaced_nil, spaced_end, begin_spaced}
-use Rattle.hermes.proofs.SumSteps.{some_sum, sum_tokens_are}
-use Rattle.hermes.proofs.Tokens.{sum_solid, follow_solid, open_moves, close_moves, end_moves}
-use Rattle.hermes.proofs.Arguments.{text_opens, number_moves, sum_ends}
-use Rattle.hermes.proofs.Digits.{text_ends, done_number}
-use Rattle.hermes.proofs.Steps.{text_length}
-use Rattle.hermes.proofs.Weights.{weighs}
-use Rattle.hermes.specs.declared.first.language.Sign.TheVariants.{Plus}
+use Rattle.std.proofs.lemmas.List.{append-nil, take_more, drop_more, take-append-drop, take_all, take-take, drop-take}
+use Rattle.hermes.specs.FirstTexts.{directive, call_tokens, argument_tokens, Spaced, is_number, is_argument, IsFirst, IsStuck, weight}
+use Rattle.hermes.specs.Reading.{Step, step_tokens, operator_byte, steps_of, steps_with, later_steps, Follow, FollowSum, Rest, RestToken, RestText, RestNumber, Moves, Halts, IsState, Stepped, IsRead, is_between, Reads}
+use Rattle.hermes.proofs.reading.Spacing.{spaced_nil, spaced_end, begin_spaced}
+use Rattle.hermes.proofs.reading.SumSteps.{some_sum, sum_tokens_are}
+use Rattle.hermes.proofs.reading.Tokens.{sum_solid, follow_solid, open_moves, close_moves, end_moves}
+use Rattle.hermes.proofs.reading.Arguments.{text_opens, number_moves, sum_ends}
+use Rattle.hermes.proofs.reading.Digits.{text_ends, done_number}
+use Rattle.hermes.proofs.reading.Steps.{text_length}
+use Rattle.hermes.proofs.reading.Weights.{weighs}
 use Rattle.hermes.specs.declared.first.language.Sum.{Sum}
 use Rattle.hermes.specs.declared.first.language.Argument.{Argument}
 use Rattle.hermes.specs.declared.first.language.Argument.TheVariants as argument
 use Rattle.hermes.specs.declared.first.language.ReadFault.{ReadFault}
 use Rattle.hermes.specs.declared.first.language.ReadFault.TheVariants as fault
 use Rattle.hermes.specs.declared.first.state.Operator.{Operator}
-use Rattle.hermes.specs.declared.first.state.Operator.TheVariants as operator
 use Rattle.hermes.specs.declared.first.state.Next.{Next}
 use Rattle.hermes.specs.declared.first.state.Next.TheVariants as next
 use Rattle.hermes.specs.declared.first.state.State.{State}
 use Rattle.hermes.specs.declared.first.state.State.TheVariants as state
-
-nil_calls : (xs : List Argument) → xs ++ [] ≡ xs
-nil_calls [] = refl
-nil_calls (x ∷ xs) = ap (λ (y : List Argument). x ∷ y) (nil_calls xs)
-
-nil_right : (xs : List ℕ) → xs ++ [] ≡ xs
-nil_right [] = refl
-nil_right (x ∷ xs) = ap (λ (y : List ℕ). x ∷ y) (nil_right xs)
 
 -- Some bytes complete each state.
 abbrev Ends : (List ℕ → List Argument → Type 0) → Type 0
@@ -42,7 +31,7 @@ back_over : (old new : List ℕ → List Argument → Type 0) (b : ℕ) → Move
 back_over old new b m x = (b ∷ x.0, x.1, m.back x.0 x.1 x.2)
 
 call_end : (done : List Argument) → RestToken [] next.Call done [] done
-call_end done = ([], ([], sym (nil_calls done), refl, refl), ([], [], refl, refl, refl))
+call_end done = ([], ([], sym (append-nil done), refl, refl), ([], [], refl, refl, refl))
 
 call_ends : (done : List Argument) → Ends (RestToken [] next.Call done)
 call_ends done = ([], done, call_end done)
@@ -159,7 +148,7 @@ halted source at now done high read halts = record {
 
 -- at the end of the source
 whole_take : (source : List ℕ) (n : ℕ) → n ≡ length source → take n source ++ [] ≡ source
-whole_take source n e = nil_right (take n source) ∙ take_all n source (omega arith)
+whole_take source n e = append-nil (take n source) ∙ take_all n source (omega arith)
 
 pub unfinished : (source : List ℕ) (n : ℕ) (now : State) (done : List Argument) → n ≡ length source → IsRead source n now done →
     ((calls : List Argument) → Rest source n now done [] calls → ⊥) → IsStuck source n
@@ -238,7 +227,7 @@ between source n (state.Token part next.Call) done size h read =
           let spaced : Spaced ([] ∷ y.0) [] = subst (λ (p : List ℕ). Spaced (p ∷ y.0) []) empty y.2 in
           let none : y.0 ≡ [] = spaced_end y.0 (follow_solid next.Call done y.0 calls y.1) spaced in
           let end : y.1.0 ≡ [] = no_more y.1.0 (sym y.1.3 ∙ none) in
-          y.1.1 ∙ ap (λ (more : List Argument). done ++ more) end ∙ nil_calls done,
+          y.1.1 ∙ ap (λ (more : List Argument). done ++ more) end ∙ append-nil done,
     )
 between source n (state.Token part next.Open) done size h read = cc
 between source n (state.Token part next.Argument) done size h read = cc

@@ -1,11 +1,11 @@
 -- The steps of the reader, as its functions state them.
-use Rattle.std.proofs.Common.{◌≡◌, ℕ, ◌+◌, ◌-◌, ◌*◌, ◌<◌, ◌≤◌, ◌≢◌, Bool, true, false, ◌&&◌, ◌==◌, nat_le, if◌then◌else◌, List, [], ◌∷◌, ◌++◌, length, take, drop, slice_index, slice_range, refl, ap, ◌⊎◌, inl, inr, sym, ◌∙◌, subst, arith, Option, Some, None, Result, Ok, Err}
+use Rattle.std.proofs.Common.{◌≡◌, ℕ, ◌+◌, ◌-◌, ◌*◌, ◌<◌, ◌≤◌, ◌≢◌, Bool, true, false, ◌==◌, if◌then◌else◌, List, [], ◌∷◌, ◌++◌, length, take, drop, slice_index, slice_range, refl, ap, ◌⊎◌, inl, inr, sym, ◌∙◌, subst, arith, Option, Some, None, Result, Ok, Err}
 use Rattle.std.specs.Int.{IsInRange}
-use Rattle.std.proofs.lemmas.List.{length-drop, length-take-le, drop_more, get_or-drop, take_more, nil_from_length}
-use Rattle.hermes.specs.FirstTexts.{is_blank, is_number, is_text_byte}
-use Rattle.hermes.specs.Reading.{operator_byte, steps_of, steps_with, Rest, RestToken, RestText, RestNumber, Moves, Halts, IsState, Stepped}
-use Rattle.hermes.proofs.Arguments.{text_opens, number_moves, first_number_opens, sum_ends, operator_moves}
-use Rattle.hermes.proofs.Digits.{digit_moves, zero_halts, large_halts, text_ends, text_moves, text_halts, text_full}
+use Rattle.std.proofs.lemmas.List.{length-drop, length-take-le, get_or-drop, take_more, nil_from_length}
+use Rattle.hermes.specs.FirstTexts.{is_number, is_text_byte}
+use Rattle.hermes.specs.Reading.{operator_byte, Rest, RestToken, RestText, RestNumber, Moves, Halts, IsState, Stepped}
+use Rattle.hermes.proofs.reading.Arguments.{text_opens, number_moves, first_number_opens, sum_ends, operator_moves}
+use Rattle.hermes.proofs.reading.Digits.{digit_moves, zero_halts, large_halts, text_ends, text_moves, text_halts, text_full}
 use Rattle.hermes.specs.declared.first.language.Sum.{Sum}
 use Rattle.hermes.specs.declared.first.language.Argument.{Argument}
 use Rattle.hermes.specs.declared.first.language.Argument.TheVariants as argument

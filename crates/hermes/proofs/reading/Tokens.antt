@@ -1,13 +1,13 @@
 -- How the reader moves over the bytes of tokens and the blanks behind them, and over texts.
-use Rattle.std.proofs.Common.{◌≡◌, ℕ, ◌+◌, ◌-◌, ◌<◌, ◌≤◌, ◌≢◌, Bool, true, false, ◌&&◌, nat_le, List, [], ◌∷◌, ◌++◌, length, map, flat_map, refl, ap, sym, ◌∙◌, subst, append_assoc, decimal, codes, arith, ◌⊎◌, inl, inr, Option, Some, None}
+use Rattle.std.proofs.Common.{◌≡◌, ℕ, ◌≢◌, true, false, List, [], ◌∷◌, ◌++◌, flat_map, refl, ap, sym, ◌∙◌, subst, append_assoc, decimal, codes, arith}
 use Rattle.std.specs.List.{list_all}
 use Rattle.std.specs.Int.{IsInRange}
-use Rattle.hermes.specs.FirstTexts.{is_blank, Spaced, is_number, is_text_byte, is_text, is_argument, argument_tokens, call_tokens, quoted}
-use Rattle.hermes.specs.Reading.{Step, steps_of, step_tokens, operator_token, is_step, later_steps, Follow, FollowCall, FollowEnd, FollowClose, FollowSum, FollowNumber, FollowArgument, FollowOpen, RestToken, RestText, RestNumber, Moves, Halts}
-use Rattle.hermes.proofs.Spacing.{Solid, spaced_cons, cons_spaced, spaced_nil, blank_spaced, spaced_blank, spaced_solid, solid_spaced}
-use Rattle.hermes.proofs.Numerals.{numeral_head}
-use Rattle.hermes.proofs.SumSteps.{sum_tokens_are}
-use Rattle.hermes.specs.declared.first.language.Sign.{Sign}
+use Rattle.hermes.proofs.reading.Bools.{both, first_of_both, second_of_both}
+use Rattle.hermes.specs.FirstTexts.{is_blank, Spaced, is_number, is_argument, argument_tokens, call_tokens}
+use Rattle.hermes.specs.Reading.{Step, step_tokens, operator_token, later_steps, Follow, RestToken, Moves, Halts}
+use Rattle.hermes.proofs.reading.Spacing.{Solid, spaced_cons, cons_spaced, blank_spaced, spaced_blank, spaced_solid, solid_spaced}
+use Rattle.hermes.proofs.reading.Numerals.{numeral_head}
+use Rattle.hermes.proofs.reading.SumSteps.{sum_tokens_are}
 use Rattle.hermes.specs.declared.first.language.Sign.TheVariants.{Plus, Minus}
 use Rattle.hermes.specs.declared.first.language.Sum.{Sum}
 use Rattle.hermes.specs.declared.first.language.Argument.{Argument}
@@ -21,7 +21,7 @@ use Rattle.hermes.specs.declared.first.state.Next.TheVariants as next
 begins_solid : (x : ℕ) (token : List ℕ) (tokens rest : List (List ℕ)) → is_blank x ≡ false → tokens ≡ (x ∷ token) ∷ rest → Solid tokens
 begins_solid x token tokens rest solid e = subst Solid (sym e) solid
 
-digit_solid : (x : ℕ) → IsInRange 48 57 x → is_blank x ≡ false
+pub digit_solid : (x : ℕ) → IsInRange 48 57 x → is_blank x ≡ false
 digit_solid x h = grind (arith, h)
 
 number_solid : (n : ℕ) (tokens rest : List (List ℕ)) → is_number n ≡ true → tokens ≡ decimal n ∷ rest → Solid tokens
@@ -111,12 +111,6 @@ open_halts done b solid other r calls x = other (fixed 40 b [] x.0 x.1.0 r x.1.1
 closing : List (List ℕ)
 closing = (41 ∷ []) ∷ (59 ∷ []) ∷ []
 
-all_after : (p : Argument → Bool) (a : Argument) (more : List Argument) → (p a && list_all p more) ≡ true → (p a ≡ true) × (list_all p more ≡ true)
-all_after p a more h = elim (p a) as (λ b. (b && list_all p more) ≡ true → (b ≡ true) × (list_all p more ≡ true)) [ true ↦ λ e. (refl, e) | false ↦ λ e. cc ] h
-
-both : (a b : Bool) → a ≡ true → b ≡ true → (a && b) ≡ true
-both a b e f = ap (λ x. x && b) e ∙ f
-
 call_opens : (more : List Argument) (done : List Argument) (tokens : List (List ℕ)) (calls : List Argument) (b : ℕ) (r : List ℕ) →
     calls ≡ done ++ more → list_all is_argument more ≡ true → tokens ≡ flat_map call_tokens more → Spaced tokens (b ∷ r) → (b ≡ 112) × RestToken (codes "rint") next.Open done r calls
 call_opens [] done tokens calls b r e h t s = let bad : b ∷ r ≡ [] = subst (λ (y : List (List ℕ)). Spaced y (b ∷ r)) t s in cc
@@ -124,7 +118,8 @@ call_opens (a ∷ more) done tokens calls b r e h t s =
     let front : List (List ℕ) = argument_tokens a in
     let behind : List (List ℕ) = flat_map call_tokens more in
     let inner : List (List ℕ) = (front ++ (41 ∷ []) ∷ (59 ∷ []) ∷ []) ++ behind in
-    let parts = all_after is_argument a more h in
+    let here = first_of_both (is_argument a) (list_all is_argument more) h in
+    let others = second_of_both (is_argument a) (list_all is_argument more) h in
     let f = fixed 112 b (codes "rint") tokens ((40 ∷ []) ∷ inner) r t s in
     let all : calls ≡ (done ++ a ∷ []) ++ more = e ∙ sym (append_assoc done (a ∷ []) more) in (
       f.0,
@@ -136,9 +131,9 @@ call_opens (a ∷ more) done tokens calls b r e h t s =
           (
             a,
             (41 ∷ []) ∷ (59 ∷ []) ∷ behind,
-            parts.0,
+            here,
             append_assoc front ((41 ∷ []) ∷ (59 ∷ []) ∷ []) behind,
-            ((59 ∷ []) ∷ behind, refl, (behind, refl, (more, all, parts.1, refl))),
+            ((59 ∷ []) ∷ behind, refl, (behind, refl, (more, all, others, refl))),
           ),
         ),
         f.1,

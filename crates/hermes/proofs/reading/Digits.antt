@@ -1,33 +1,20 @@
 -- How the reader moves in a text and in a number.
-use Rattle.std.proofs.Common.{◌≡◌, ℕ, zero, suc, ◌+◌, ◌-◌, ◌*◌, ◌<◌, ◌≤◌, ◌≢◌, Bool, true, false, ◌&&◌, nat_le, List, [], ◌∷◌, ◌++◌, length, map, flat_map, refl, ap, sym, ◌∙◌, subst, append_assoc, length-append, decimal, codes, arith, ◌⊎◌, inl, inr, Option, Some, None}
+use Rattle.std.proofs.Common.{◌≡◌, ℕ, zero, suc, ◌+◌, ◌-◌, ◌*◌, ◌<◌, ◌≤◌, ◌≢◌, true, false, List, [], ◌∷◌, ◌++◌, length, refl, ap, sym, ◌∙◌, subst, append_assoc, length-append, decimal, arith, ◌⊎◌, inl, inr, Option}
 use Rattle.std.specs.List.{list_all}
 use Rattle.std.specs.Int.{IsInRange}
-use Rattle.hermes.specs.FirstTexts.{is_blank, Spaced, is_number, is_text_byte}
+use Rattle.std.proofs.lemmas.List.{append-nil}
+use Rattle.hermes.proofs.reading.Bools.{both, first_of_both, second_of_both}
+use Rattle.hermes.specs.FirstTexts.{Spaced, is_number, is_text_byte}
 use Rattle.hermes.specs.Reading.{Step, steps_of, steps_with, FollowClose, FollowSum, RestToken, RestText, RestNumber, Moves, Halts}
-use Rattle.hermes.proofs.Spacing.{spaced_cons, cons_spaced, spaced_solid, solid_spaced}
-use Rattle.hermes.proofs.Numerals.{numeral_digit, zero_alone, one_more, front_fits, same_numeral}
-use Rattle.hermes.proofs.Arguments.{sum_byte, digit_solid}
+use Rattle.hermes.proofs.reading.Spacing.{spaced_cons, cons_spaced, spaced_solid}
+use Rattle.hermes.proofs.reading.Numerals.{numeral_digit, zero_alone, one_more, front_fits, same_numeral}
+use Rattle.hermes.proofs.reading.Arguments.{sum_byte}
+use Rattle.hermes.proofs.reading.Tokens.{digit_solid}
 use Rattle.hermes.specs.declared.first.language.Sum.{Sum}
 use Rattle.hermes.specs.declared.first.language.Argument.{Argument}
 use Rattle.hermes.specs.declared.first.language.Argument.TheVariants as argument
 use Rattle.hermes.specs.declared.first.state.Operator.{Operator}
-use Rattle.hermes.specs.declared.first.state.Next.{Next}
 use Rattle.hermes.specs.declared.first.state.Next.TheVariants as next
-
-nil_right : (xs : List ℕ) → xs ++ [] ≡ xs
-nil_right [] = refl
-nil_right (x ∷ xs) = ap (λ (y : List ℕ). x ∷ y) (nil_right xs)
-
-both : (a b : Bool) → a ≡ true → b ≡ true → (a && b) ≡ true
-both a b e f = ap (λ x. x && b) e ∙ f
-
-first_of_both : (a b : Bool) → (a && b) ≡ true → a ≡ true
-first_of_both true b e = refl
-first_of_both false b e = cc
-
-second_of_both : (a b : Bool) → (a && b) ≡ true → b ≡ true
-second_of_both true b e = e
-second_of_both false b e = cc
 
 -- in a text
 InText : ℕ → List ℕ → List Argument → List ℕ → List Argument → Type 0
@@ -41,7 +28,7 @@ text_goes_on : (more : List ℕ) (text : List ℕ) (done : List Argument) (token
 unfolding InText
 text_goes_on [] text done tokens calls b r short h close s =
     let f = spaced_cons 34 b [] tokens r s in
-    inl (f.0, (tokens, subst (λ (t : List ℕ). FollowClose (done ++ argument.Text t ∷ []) tokens calls) (nil_right text) close, f.1))
+    inl (f.0, (tokens, subst (λ (t : List ℕ). FollowClose (done ++ argument.Text t ∷ []) tokens calls) (append-nil text) close, f.1))
 text_goes_on (y ∷ more) text done tokens calls b r short h close s =
     let f = spaced_cons y b (more ++ 34 ∷ []) tokens r s in
     let here : is_text_byte y ≡ true = first_of_both (is_text_byte y) (list_all is_text_byte more) h in
@@ -81,7 +68,7 @@ text_ends text done short = record {
     x.0,
     omega (arith, short),
     refl,
-    subst (λ (t : List ℕ). FollowClose (done ++ argument.Text t ∷ []) x.0 calls) (sym (nil_right text)) x.1,
+    subst (λ (t : List ℕ). FollowClose (done ++ argument.Text t ∷ []) x.0 calls) (sym (append-nil text)) x.1,
     cons_spaced 34 [] x.0 r x.2,
   );
 }
@@ -178,4 +165,4 @@ number_done before value s done b hv other e r calls x =
 pub done_number : (before : Option (Sum × Operator)) (value : ℕ) (s : Sum) (done : List Argument) → is_number value ≡ true → steps_of s ≡ steps_with before value →
     (r : List ℕ) (calls : List Argument) → RestToken [] (next.Operator s) done r calls → RestNumber before value done r calls
 done_number before value s done hv e r calls x =
-    (value, [], x.0, hv, sym (nil_right (decimal value)), subst (λ (us : List Step). FollowSum us done x.0 calls) e x.1, x.2)
+    (value, [], x.0, hv, sym (append-nil (decimal value)), subst (λ (us : List Step). FollowSum us done x.0 calls) e x.1, x.2)

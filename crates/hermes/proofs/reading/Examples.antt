@@ -1,13 +1,11 @@
 -- The definitions at small texts.
-use Rattle.std.proofs.Common.{◌≡◌, ℕ, List, [], ◌∷◌, ◌++◌, codes, refl, decimal, Option, Some, None}
+use Rattle.std.proofs.Common.{◌≡◌, ℕ, [], ◌∷◌, codes, refl, Some, None}
 use Rattle.std.specs.Fmt.{digits}
 use Rattle.hz_value.specs.declared.leaving.Left.TheVariants.{NotSafe}
-use Rattle.hermes.specs.FirstTexts.{directive, first_tokens, is_argument}
+use Rattle.hermes.specs.FirstTexts.{directive, first_tokens}
 use Rattle.hermes.specs.Meaning.{lines_of, left_of}
 use Rattle.hermes.specs.declared.first.language.Sign.TheVariants.{Plus, Minus}
-use Rattle.hermes.specs.declared.first.language.Sum.{Sum}
 use Rattle.hermes.specs.declared.first.language.Term.{Term}
-use Rattle.hermes.specs.declared.first.language.Addend.{Addend}
 use Rattle.hermes.specs.declared.first.language.Argument.{Argument}
 use Rattle.hermes.specs.declared.first.language.Argument.TheVariants as argument
 

@@ -1,11 +1,12 @@
 -- A first text is at least as long as its calls weigh.
-use Rattle.std.proofs.Common.{◌≡◌, ℕ, suc, ◌+◌, ◌*◌, ◌<◌, ◌≤◌, Bool, true, false, ◌&&◌, nat_le, List, [], ◌∷◌, ◌++◌, length, map, flat_map, refl, ap, sym, ◌∙◌, subst, length-append, decimal, arith}
+use Rattle.std.proofs.Common.{◌≡◌, ℕ, suc, ◌+◌, ◌*◌, ◌<◌, ◌≤◌, true, List, [], ◌∷◌, ◌++◌, length, map, flat_map, refl, ap, sym, ◌∙◌, subst, length-append, decimal, arith}
 use Rattle.std.specs.List.{list_all}
 use Rattle.std.proofs.lemmas.Fmt.{decimal_nonempty}
-use Rattle.hermes.specs.FirstTexts.{directive, first_tokens, call_tokens, argument_tokens, sum_tokens, Spaced, is_blank, is_number, is_argument, is_sum, IsFirst, addend_numbers, further_numbers, weight_of, weight}
+use Rattle.hermes.proofs.reading.Bools.{first_of_both, second_of_both}
+use Rattle.hermes.specs.FirstTexts.{first_tokens, call_tokens, argument_tokens, sum_tokens, Spaced, is_number, is_argument, is_sum, IsFirst, addend_numbers, further_numbers, weight_of, weight}
 use Rattle.hermes.specs.Reading.{Step, times, addend_steps, later_steps, steps_of, step_tokens, is_step}
-use Rattle.hermes.proofs.Numerals.{number_small}
-use Rattle.hermes.proofs.SumSteps.{sum_tokens_are, sum_numbers}
+use Rattle.hermes.proofs.reading.Numerals.{number_small}
+use Rattle.hermes.proofs.reading.SumSteps.{sum_tokens_are, sum_numbers}
 use Rattle.hermes.specs.declared.first.language.Addend.{Addend}
 use Rattle.hermes.specs.declared.first.language.Sum.{Sum}
 use Rattle.hermes.specs.declared.first.language.Argument.{Argument}
@@ -28,14 +29,6 @@ spaced_size (t ∷ tokens) bytes s =
     let first : length (t ++ (s.0 ++ s.1)) ≡ length t + length (s.0 ++ s.1) = length-append t (s.0 ++ s.1) in
     let second : length (s.0 ++ s.1) ≡ length s.0 + length s.1 = length-append s.0 s.1 in
     omega arith
-
-first_of_both : (a b : Bool) → (a && b) ≡ true → a ≡ true
-first_of_both true b e = refl
-first_of_both false b e = cc
-
-second_of_both : (a b : Bool) → (a && b) ≡ true → b ≡ true
-second_of_both true b e = e
-second_of_both false b e = cc
 
 number_size : (n : ℕ) → is_number n ≡ true → 1 ≤ length (decimal n)
 number_size n h = let some : 0 < length (decimal n) = decimal_nonempty n (number_small n h) in omega arith

@@ -1,11 +1,11 @@
 -- A sum and the list of its steps determine each other.
 use Rattle.std.proofs.Common.{◌≡◌, ℕ, Bool, true, false, ◌&&◌, List, [], ◌∷◌, ◌++◌, map, flat_map, refl, ap, sym, ◌∙◌, append_assoc, decimal}
 use Rattle.std.specs.List.{list_all}
+use Rattle.std.proofs.lemmas.List.{append-nil}
 use Rattle.hermes.specs.FirstTexts.{is_number, is_addend, is_sum, factor_tokens, addend_tokens, sum_tokens}
 use Rattle.hermes.specs.Reading.{Step, times, addend_steps, later_steps, steps_of, step_tokens, is_step}
 use Rattle.hermes.specs.declared.first.language.Sign.{Sign}
 use Rattle.hermes.specs.declared.first.language.Sign.TheVariants.{Plus}
-use Rattle.hermes.specs.declared.first.language.Term.{Term}
 use Rattle.hermes.specs.declared.first.language.Addend.{Addend}
 use Rattle.hermes.specs.declared.first.language.Sum.{Sum}
 use Rattle.hermes.specs.declared.first.state.Operator.{Operator}
@@ -45,24 +45,16 @@ factors_parted : (fs : List ℕ) (us : List Step) (p : Parts) → parted us ≡ 
 factors_parted [] us p e = e
 factors_parted (f ∷ fs) us p e = ap (λ (q : Parts). placed operator.Times f q) (factors_parted fs us p e)
 
-nil_right : (xs : List ℕ) → xs ++ [] ≡ xs
-nil_right [] = refl
-nil_right (x ∷ xs) = ap (λ (y : List ℕ). x ∷ y) (nil_right xs)
-
-nil_steps : (xs : List Step) → xs ++ [] ≡ xs
-nil_steps [] = refl
-nil_steps (x ∷ xs) = ap (λ (y : List Step). x ∷ y) (nil_steps xs)
-
 addends_parted : (rs : List Addend) → parted (flat_map addend_steps rs) ≡ ([], rs)
 addends_parted [] = refl
 addends_parted (a ∷ rs) =
     ap (λ (q : Parts). placed (operator.Sign a.sign) a.term.first q) (factors_parted a.term.others (flat_map addend_steps rs) ([], rs) (addends_parted rs))
-    ∙ ap (λ (fs : List ℕ). placed (operator.Sign a.sign) a.term.first (fs, rs)) (nil_right a.term.others)
+    ∙ ap (λ (fs : List ℕ). placed (operator.Sign a.sign) a.term.first (fs, rs)) (append-nil a.term.others)
 
 sum_again : (s : Sum) → sum_with s.first.first (parted (later_steps s)) ≡ s
 sum_again s =
     ap (λ (q : Parts). sum_with s.first.first q) (factors_parted s.first.others (flat_map addend_steps s.others) ([], s.others) (addends_parted s.others))
-    ∙ ap (λ (fs : List ℕ). sum_with s.first.first (fs, s.others)) (nil_right s.first.others)
+    ∙ ap (λ (fs : List ℕ). sum_with s.first.first (fs, s.others)) (append-nil s.first.others)
 
 heads : (u v : Step) (us vs : List Step) → u ∷ us ≡ v ∷ vs → u ≡ v
 heads u v us vs e = cc
@@ -114,7 +106,7 @@ sum_tokens_are s =
 
 -- one step more
 flat_more : (rs : List Addend) (a : Addend) → flat_map addend_steps (rs ++ a ∷ []) ≡ flat_map addend_steps rs ++ addend_steps a
-flat_more [] a = nil_steps (addend_steps a)
+flat_more [] a = append-nil (addend_steps a)
 flat_more (x ∷ rs) a = ap (λ (y : List Step). addend_steps x ++ y) (flat_more rs a) ∙ sym (append_assoc (addend_steps x) (flat_map addend_steps rs) (addend_steps a))
 
 times_more : (fs : List ℕ) (n : ℕ) → map times (fs ++ n ∷ []) ≡ map times fs ++ times n ∷ []
@@ -134,9 +126,9 @@ first_more s n e =
     let none : flat_map addend_steps s.others ≡ [] = ap (λ (y : List Addend). flat_map addend_steps y) e in
     let before : map times (s.first.others ++ n ∷ []) ++ flat_map addend_steps s.others ≡ (front ++ flat_map addend_steps s.others) ++ times n ∷ [] =
     ap (λ (y : List Step). map times (s.first.others ++ n ∷ []) ++ y) none
-    ∙ nil_steps (map times (s.first.others ++ n ∷ []))
+    ∙ append-nil (map times (s.first.others ++ n ∷ []))
     ∙ times_more s.first.others n
-    ∙ ap (λ (y : List Step). y ++ times n ∷ []) (sym (nil_steps front))
+    ∙ ap (λ (y : List Step). y ++ times n ∷ []) (sym (append-nil front))
     ∙ ap (λ (y : List Step). (front ++ y) ++ times n ∷ []) (sym none) in
     ap (λ (y : List Step). (operator.Sign Plus, s.first.first) ∷ y) before
 

@@ -1,41 +1,22 @@
 -- How the reader moves at an argument, over a text, and between the numbers of a sum.
-use Rattle.std.proofs.Common.{◌≡◌, ℕ, ◌+◌, ◌-◌, ◌<◌, ◌≤◌, ◌≢◌, Bool, true, false, ◌&&◌, nat_le, List, [], ◌∷◌, ◌++◌, length, map, flat_map, refl, ap, sym, ◌∙◌, subst, append_assoc, length-append, decimal, codes, arith, ◌⊎◌, inl, inr, Option, Some, None}
+use Rattle.std.proofs.Common.{◌≡◌, ℕ, ◌+◌, ◌-◌, ◌≤◌, ◌≢◌, true, false, nat_le, List, [], ◌∷◌, ◌++◌, length, flat_map, refl, ap, sym, ◌∙◌, subst, append_assoc, decimal, arith, ◌⊎◌, inl, inr, Some, None}
 use Rattle.std.specs.List.{list_all}
 use Rattle.std.specs.Int.{IsInRange}
+use Rattle.std.proofs.lemmas.List.{append-nil}
+use Rattle.hermes.proofs.reading.Bools.{both, first_of_both, second_of_both}
 use Rattle.hermes.specs.FirstTexts.{is_blank, Spaced, is_number, is_text_byte, is_text, is_sum, is_argument, argument_tokens, quoted}
-use Rattle.hermes.specs.Reading.{Step, steps_of, steps_with, step_tokens, operator_byte, operator_token, is_step, later_steps, Follow, FollowClose, FollowSum, FollowNumber, FollowArgument, RestToken, RestText, RestNumber, Moves, Halts}
-use Rattle.hermes.proofs.Spacing.{spaced_cons, cons_spaced, spaced_solid, solid_spaced}
-use Rattle.hermes.proofs.Numerals.{numeral_head, digit_alone}
-use Rattle.hermes.proofs.SumSteps.{sum_tokens_are, sum_numbers, same_sum}
-use Rattle.hermes.proofs.Tokens.{fixed}
-use Rattle.hermes.specs.declared.first.language.Sign.{Sign}
+use Rattle.hermes.specs.Reading.{Step, steps_of, step_tokens, operator_byte, operator_token, is_step, later_steps, FollowClose, FollowSum, RestToken, RestText, RestNumber, Moves, Halts}
+use Rattle.hermes.proofs.reading.Spacing.{cons_spaced, spaced_solid, solid_spaced}
+use Rattle.hermes.proofs.reading.Numerals.{numeral_head, digit_alone}
+use Rattle.hermes.proofs.reading.SumSteps.{sum_tokens_are, sum_numbers, same_sum}
+use Rattle.hermes.proofs.reading.Tokens.{digit_solid, fixed}
 use Rattle.hermes.specs.declared.first.language.Sign.TheVariants.{Plus, Minus}
 use Rattle.hermes.specs.declared.first.language.Sum.{Sum}
 use Rattle.hermes.specs.declared.first.language.Argument.{Argument}
 use Rattle.hermes.specs.declared.first.language.Argument.TheVariants as argument
 use Rattle.hermes.specs.declared.first.state.Operator.{Operator}
 use Rattle.hermes.specs.declared.first.state.Operator.TheVariants as operator
-use Rattle.hermes.specs.declared.first.state.Next.{Next}
 use Rattle.hermes.specs.declared.first.state.Next.TheVariants as next
-
-nil_right : (xs : List ℕ) → xs ++ [] ≡ xs
-nil_right [] = refl
-nil_right (x ∷ xs) = ap (λ (y : List ℕ). x ∷ y) (nil_right xs)
-
-nil_steps : (xs : List Step) → xs ++ [] ≡ xs
-nil_steps [] = refl
-nil_steps (x ∷ xs) = ap (λ (y : List Step). x ∷ y) (nil_steps xs)
-
-both : (a b : Bool) → a ≡ true → b ≡ true → (a && b) ≡ true
-both a b e f = ap (λ x. x && b) e ∙ f
-
-first_of_both : (a b : Bool) → (a && b) ≡ true → a ≡ true
-first_of_both true b e = refl
-first_of_both false b e = cc
-
-second_of_both : (a b : Bool) → (a && b) ≡ true → b ≡ true
-second_of_both true b e = e
-second_of_both false b e = cc
 
 -- a byte that begins a number
 number_opens : (n b : ℕ) (tokens rest : List (List ℕ)) (r : List ℕ) → is_number n ≡ true → tokens ≡ decimal n ∷ rest → Spaced tokens (b ∷ r) →
@@ -51,9 +32,6 @@ opens_number : (n b : ℕ) (more : List ℕ) (rest : List (List ℕ)) (r : List 
 opens_number n b more rest r digit e s =
     let same : decimal n ≡ b ∷ more = e ∙ ap (λ (y : List ℕ). y ++ more) (digit_alone b digit) in
     solid_spaced (decimal n ∷ rest) (b ∷ r) (subst (λ (y : List ℕ). Spaced (y ∷ rest) (b ∷ r)) (sym same) (cons_spaced b more rest r s))
-
-pub digit_solid : (x : ℕ) → IsInRange 48 57 x → is_blank x ≡ false
-digit_solid x h = grind (arith, h)
 
 -- at an argument
 text_parts : (t : List ℕ) → is_text t ≡ true → (length t ≤ 254) × (list_all is_text_byte t ≡ true)
@@ -180,7 +158,7 @@ sum_goes_on : (more : List Step) (steps : List Step) (s : Sum) (done : List Argu
 unfolding Behind
 sum_goes_on [] steps s done tokens rest calls b r e h t close sp =
     let f = fixed 41 b [] tokens close.0 r (t ∙ close.1) sp in
-    inl (f.0, (s, e ∙ nil_steps steps, (close.0, close.2, f.1)))
+    inl (f.0, (s, e ∙ append-nil steps, (close.0, close.2, f.1)))
 sum_goes_on (u ∷ more) steps s done tokens rest calls b r e h t close sp =
     let behind : List (List ℕ) = flat_map step_tokens more ++ rest in
     let f = fixed (operator_byte u.0) b [] tokens (decimal u.1 ∷ behind) r t sp in
@@ -207,7 +185,7 @@ sum_ends s done = record {
   ];
   back = λ r calls x. (
     (41 ∷ []) ∷ x.0,
-    (s, [], (41 ∷ []) ∷ x.0, sym (nil_steps (steps_of s)), refl, refl, (x.0, refl, x.1)),
+    (s, [], (41 ∷ []) ∷ x.0, sym (append-nil (steps_of s)), refl, refl, (x.0, refl, x.1)),
     solid_spaced ((41 ∷ []) ∷ x.0) (41 ∷ r) (cons_spaced 41 [] x.0 r x.2),
   );
 }

@@ -1,10 +1,11 @@
 -- Decimal numerals, digit by digit.
-use Rattle.std.proofs.Common.{◌≡◌, ℕ, zero, suc, ◌+◌, ◌-◌, ◌*◌, ◌/◌, ◌%◌, ◌^◌, ◌<◌, ◌≤◌, Bool, true, false, nat_le, List, [], ◌∷◌, ◌++◌, length, get_or, refl, ap, sym, ◌∙◌, subst, arith, append_assoc, decimal, lit<}
+use Rattle.std.proofs.Common.{◌≡◌, ℕ, zero, suc, ◌+◌, ◌-◌, ◌*◌, ◌/◌, ◌%◌, ◌^◌, ◌<◌, ◌≤◌, true, List, [], ◌∷◌, ◌++◌, length, get_or, refl, ap, sym, ◌∙◌, subst, arith, decimal, lit<}
 use Rattle.std.specs.Str.Parse.{AllDigits, digits_value, digits_value_after}
 use Rattle.std.specs.Char.{digit_value}
 use Rattle.std.specs.Int.{IsInRange}
 use Rattle.std.proofs.lemmas.Str.Parse.{digit_from_value}
 use Rattle.std.proofs.lemmas.Fmt.{decimal_is_IsNumeral, decimal_digit, decimal_step, decimal_injective, first_decimal}
+use Rattle.std.proofs.lemmas.List.{append-nil}
 use Rattle.hermes.specs.FirstTexts.{is_number}
 
 pub number_fits : (n : ℕ) → is_number n ≡ true → n ≤ 9007199254740991
@@ -83,9 +84,5 @@ front_fits n v b more h hv e =
     let fits : n ≤ 9007199254740991 = number_fits n h in
     omega arith
 
-nil_right : (xs : List ℕ) → xs ++ [] ≡ xs
-nil_right [] = refl
-nil_right (x ∷ xs) = ap (λ (y : List ℕ). x ∷ y) (nil_right xs)
-
 pub same_numeral : (n v : ℕ) → is_number n ≡ true → is_number v ≡ true → decimal n ≡ decimal v ++ [] → n ≡ v
-same_numeral n v h hv e = decimal_injective n v (number_small n h) (number_small v hv) (e ∙ nil_right (decimal v))
+same_numeral n v h hv e = decimal_injective n v (number_small n h) (number_small v hv) (e ∙ append-nil (decimal v))
