@@ -1,2 +1,3 @@
-pub mod Sources
 pub mod Ascii
+pub mod Sources
+pub mod reading

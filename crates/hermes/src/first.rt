@@ -1,19 +1,12 @@
-// Scripts as far as they are built.
+// First texts: the scripts that are built so far, from their bytes to their run.
 
+pub mod compile;
+pub mod generate;
 pub mod language;
+pub mod reader;
+mod state;
+mod steps;
+mod sums;
 
-ghost use Rattle.std.specs.Prelude.{◌≡◌};
-ghost use Rattle.hermes.specs.Outcomes.{Outcome};
-ghost use Rattle.hermes.specs.Effects.{WriteCause};
-
-use crate::status::Status;
-use hz_io::Sink;
-use std::alloc::Global;
-
-pub fn run_source<K: Sink>(_alloc: Global, _source: &[u8], _out: &mut K) -> Status
-    ensures outcome { Outcome result _source.now (K.got _out.old) (K.got _out.new) }
-    ensures read { result ≡ Status.ReadFault → ⊥ }
-    ensures cause { WriteCause result (K.count _out.old) (K.count _out.new) }
-{
-    Status::Memory
-}
+#[cfg(test)]
+mod tests;
