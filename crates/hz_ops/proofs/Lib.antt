@@ -1,0 +1,6 @@
+pub mod Reading
+pub mod Fitting
+pub mod Numbering
+pub mod RoundTrip
+mod Worked
+pub mod Running

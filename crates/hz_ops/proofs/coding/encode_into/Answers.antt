@@ -1,0 +1,18 @@
+use Rattle.std.proofs.Common.{◌<◌, length, arith, ap}
+use Rattle.hz_ops.specs.Table.{kinds_of}
+use Rattle.hz_ops.specs.Coding.{first_byte, operand_bytes}
+use Rattle.hz_ops.proofs.RoundTrip.{read_again, written_whole}
+use Rattle.hz_ops.proofs.coding.encode_into.Goals as goal
+
+pub returns-clause-bytes : goal.returns-clause-bytes
+returns-clause-bytes c =
+    written_whole (first_byte c.args.i.now.long c.args.i.now.op) _ _ _ _ c.args.buf.now c.put_operands.new.buf
+    (omega arith)
+    c.first_byte.ensures
+    (ap (operand_bytes c.args.i.now.long (kinds_of c.args.i.now.op)) c.as_slice.ensures.value)
+    c.put_operands.ensures.place
+    c.put_operands.ensures.front
+    c.put_operands.ensures.back
+
+pub returns-clause-again : goal.returns-clause-again
+returns-clause-again c = λ rest. read_again c.args.i.now rest c.requires.fits
