@@ -7,7 +7,12 @@ use Rattle.hz_ops.specs.declared.op.OperandKind.{OperandKind}
 use Rattle.hz_ops.specs.declared.op.OperandKind.TheVariants as kind
 use Rattle.hz_ops.specs.declared.op.Operand.{Operand}
 use Rattle.hz_ops.specs.Sizes.{width, byte_count}
-use Rattle.hz_ops.specs.Coding.{size_of, number_of, operand_fits, operands_fit, operand_bytes}
+use Rattle.hz_ops.specs.Coding.{size_of, number_of, operand_fits, operands_fit, operand_bytes, spelling}
+use Rattle.hz_ops.specs.declared.instr.Instr.{Instr}
+use Rattle.hz_ops.specs.declared.op.Op.{Op}
+use Rattle.hz_ops.specs.declared.op.Op.TheVariants.{LoadUndefined}
+use Rattle.hz_ops.specs.Table.{kinds_of}
+use Rattle.std.proofs.Common.{lit≤}
 use Rattle.std.proofs.lemmas.List.{length-drop, drop-drop}
 
 -- both hold where their conjunction does
@@ -72,3 +77,24 @@ written_more long ks os i k o before after step e =
 pub dropped_on : (at count later : ℕ) (xs ys : List ℕ) → later ≡ at + count → drop at xs ≡ drop at ys → drop later xs ≡ drop later ys
 dropped_on at count later xs ys e same =
     ap (λ n. drop n xs) e ∙ sym (drop-drop count at xs) ∙ ap (drop count) same ∙ drop-drop count at ys ∙ ap (λ n. drop n ys) (sym e)
+
+pub size_at_most : (s : Size) → byte_count s ≤ 8
+size_at_most One = lit≤ tt
+size_at_most Two = lit≤ tt
+size_at_most Eight = lit≤ tt
+
+-- how many bytes the operands take at most
+pub bytes_at_most : (long : Bool) (ks : List OperandKind) (os : List Operand) → length (operand_bytes long ks os) ≤ 8 * length ks
+bytes_at_most long [] os = omega arith
+bytes_at_most long (k ∷ ks) [] = omega arith
+bytes_at_most long (k ∷ ks) (o ∷ os) =
+    let here : List ℕ = to_le_bytes (width (size_of long k)) (number_of (size_of long k) o) in
+    omega (arith, length-append here (operand_bytes long ks os), length_number (size_of long k) (number_of (size_of long k) o), size_at_most (size_of long k), bytes_at_most long ks os)
+
+-- no operation has more than five operands
+pub few_kinds : (op : Op) → length (kinds_of op) ≤ 5
+few_kinds LoadUndefined = lit≤ tt
+few_kinds _ = lit≤ tt
+
+pub spelling_at_most : (i : Instr) → length (spelling i) ≤ 41
+spelling_at_most i = omega (arith, bytes_at_most i.long (kinds_of i.op) i.args.items, few_kinds i.op)

@@ -4,3 +4,4 @@ pub mod Numbering
 pub mod RoundTrip
 mod Worked
 pub mod Running
+pub mod Rows

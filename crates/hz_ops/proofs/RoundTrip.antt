@@ -12,7 +12,7 @@ use Rattle.hz_ops.specs.declared.op.Op.{Op}
 use Rattle.hz_ops.specs.declared.op.Op.TheVariants.{LoadUndefined}
 use Rattle.hz_ops.specs.declared.op.OperandKind.{OperandKind}
 use Rattle.hz_ops.specs.declared.op.Operand.{Operand}
-use Rattle.hz_ops.specs.declared.op.Instr.{Instr}
+use Rattle.hz_ops.specs.declared.instr.Instr.{Instr}
 use Rattle.hz_ops.specs.Sizes.{width, byte_count, number_at}
 use Rattle.hz_ops.specs.Table.{number_of_op, kinds_of, among, operations, op_at}
 use Rattle.hz_ops.specs.Coding.{size_of, operand_of, number_of, operand_fits, operand_at, operands_at, operands_fit, operand_bytes, first_byte, with_operation, front, decode_at, spelling, fits_of}

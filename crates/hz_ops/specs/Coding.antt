@@ -1,6 +1,6 @@
 -- Instructions as bytes. The first byte is the operation's number, with 128 more in the long form; then
 -- come the operands in the order of the row, each of them with its lowest byte first.
-use Rattle.std.specs.Prelude.{ℕ, ◌+◌, ◌-◌, ◌*◌, ◌%◌, ◌^◌, Bool, true, false, ◌&&◌, List, [], ◌∷◌, ◌++◌, length, drop, nat_lt, nat_le, int_lt, int_le, ℤ, pos, neg_ℤ, if◌then◌else◌, Option, Some, None, option_map, option_and_then}
+use Rattle.std.specs.Prelude.{ℕ, ◌+◌, ◌-◌, ◌*◌, ◌%◌, ◌^◌, Bool, true, false, not, ◌&&◌, List, [], ◌∷◌, ◌++◌, length, drop, nat_lt, nat_le, int_lt, int_le, ℤ, pos, neg_ℤ, if◌then◌else◌, Option, Some, None, option_map, option_and_then}
 use Rattle.std.specs.Int.{to_le_bytes, cast_signed, cast_unsigned}
 use Rattle.arrayvec.specs.ArrayVec.{ArrayVec}
 use Rattle.hz_ops.specs.declared.number.Size.{Size}
@@ -10,7 +10,7 @@ use Rattle.hz_ops.specs.declared.op.OperandKind.{OperandKind}
 use Rattle.hz_ops.specs.declared.op.OperandKind.TheVariants as kind
 use Rattle.hz_ops.specs.declared.op.Operand.{Operand}
 use Rattle.hz_ops.specs.declared.op.Operand.TheVariants.{Register, Slot, Text, Function, Int, Jump, Count}
-use Rattle.hz_ops.specs.declared.op.Instr.{Instr}
+use Rattle.hz_ops.specs.declared.instr.Instr.{Instr}
 use Rattle.hz_ops.specs.Sizes.{width, byte_count, number_at}
 use Rattle.hz_ops.specs.Table.{number_of_op, kinds_of, op_at}
 
@@ -97,13 +97,17 @@ operands_at long (k ∷ ks) bytes =
     (λ o. option_map (λ r. (o.0 ∷ r.0, r.1)) (operands_at long ks o.1))
     (operand_at long k bytes)
 
+-- the instruction of these operands
+abbrev pub instr_of : Op → Bool → List Operand → Instr
+instr_of op long os = record { op = op; long = long; args = record { items = os } }
+
 -- the instruction of this operation whose operands are in front of `rest`, and its length, where it
 -- begins with `total` bytes before the end
 abbrev pub with_operation : Bool → ℕ → List ℕ → Option Op → Option (Instr × ℕ)
 with_operation long total rest None = None
 with_operation long total rest (Some op) =
     option_map
-    (λ r. (record { op = op; long = long; args = record { items = r.0 } }, total - length r.1))
+    (λ r. (instr_of op long r.0, total - length r.1))
     (operands_at long (kinds_of op) rest)
 
 -- the instruction in front, and its length
@@ -130,6 +134,11 @@ first_byte long op = number_of_op op + (if long then 128 else 0)
 abbrev pub spelling : Instr → List ℕ
 spelling i = first_byte i.long i.op ∷ operand_bytes i.long (kinds_of i.op) i.args.items
 
+-- the bytes of instructions in a row
+abbrev pub spellings : List Instr → List ℕ
+spellings [] = []
+spellings (i ∷ is) = spelling i ++ spellings is
+
 -- these are as many operands as kinds, each of its kind, and with room in its bytes
 abbrev pub operands_fit : Bool → List OperandKind → List Operand → Bool
 operands_fit long [] [] = true
@@ -140,3 +149,7 @@ operands_fit long (k ∷ ks) (o ∷ os) = operand_fits (size_of long k) k o && o
 -- the operands have the shape of the operation, and each fits the form
 abbrev pub fits_of : Instr → Bool
 fits_of i = operands_fit i.long (kinds_of i.op) i.args.items
+
+-- in the short form where the operands fit it, else in the long form
+abbrev pub shortest_of : Op → List Operand → Instr
+shortest_of op os = instr_of op (not (operands_fit false (kinds_of op) os)) os

@@ -21,16 +21,20 @@ pub record System : Type 0 where
   pub lines : List (List ℕ)
   pub state : State
 
+-- these lines are printed, and the activation runs
+abbrev pub running : List (List ℕ) → Activation → System
+running lines a = record { lines = lines; state = Running a }
+
 -- the system does the act of an activation that then stands as given
 abbrev pub acted : List (List ℕ) → Activation → Act → System
-acted lines a (Print line) = record { lines = lines ++ line ∷ []; state = Running a }
+acted lines a (Print line) = running (lines ++ line ∷ []) a
 acted lines a (Return x) = record { lines = lines; state = Ended Done }
 acted lines a (Leave reason) = record { lines = lines; state = Ended (LeftFor reason) }
 acted lines a Bad = record { lines = lines; state = Ended BadCode }
 acted lines a Beyond = record { lines = lines; state = Unbuilt }
 
 abbrev pub next_system : List (List ℕ) → Next → System
-next_system lines (Goes a) = record { lines = lines; state = Running a }
+next_system lines (Goes a) = running lines a
 next_system lines (Does act a) = acted lines a act
 
 -- one step from a state in which these lines are printed; a run that has ended stays as it is
@@ -49,7 +53,7 @@ after m (suc n) s = after m n (system_step m s)
 
 -- nothing is printed yet, and the script is entered
 abbrev pub start_of : Module → System
-start_of m = record { lines = []; state = Running (entered m 0) }
+start_of m = running [] (entered m 0)
 
 -- the run from s ends so, and has then printed these lines
 pub record Ends (m : Module) (s : System) (lines : List (List ℕ)) (end : End) : Type 0 where

@@ -3,7 +3,8 @@ ghost use Rattle.std.specs.Prelude.{◌≡◌, ℕ, ◌+◌, ◌*◌, ◌≤◌,
 ghost use Rattle.hz_ops.specs.Table.{kinds_of};
 ghost use Rattle.hz_ops.specs.Coding.{operands_at, operands_fit, operand_bytes, first_byte, front, decode_at, spelling, fits_of};
 
-use crate::op::{Instr, Op, Operand, OperandKind};
+use crate::instr::Instr;
+use crate::op::{Op, Operand, OperandKind};
 use crate::shape::Shape;
 use crate::table::{number_of, op_at, table};
 use arrayvec::ArrayVec;
@@ -20,6 +21,7 @@ pub fn encode_into(i: &Instr, buf: &mut [u8]) -> usize
     requires fits { IsTrue (fits_of i.now) }
     requires room { 41 ≤ length buf.old }
     ensures length { result ≡ length (spelling i.now) }
+    ensures most { result ≤ 41 }
     ensures bytes { buf.new ≡ spelling i.now ++ drop (length (spelling i.now)) buf.old }
 
     // What was written is read again, whatever follows.
@@ -87,7 +89,8 @@ fn operands_at(op: Op, long: bool, bytes: &[u8]) -> Option<(ArrayVec<Operand, 5>
     table!(read_arms op, long, bytes)
 }
 
-fn operands_fit(op: Op, long: bool, args: &[Operand]) -> bool
+/// Whether these are the operation's operands, each with room in its bytes.
+pub(crate) fn operands_fit(op: Op, long: bool, args: &[Operand]) -> bool
     ensures { result ≡ operands_fit long (kinds_of op) args.now }
 {
     macro_rules! fit_arms {

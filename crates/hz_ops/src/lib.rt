@@ -11,6 +11,7 @@
 #![tactic(auto)]
 
 mod coding;
+mod instr;
 mod laws;
 mod number;
 mod op;
@@ -19,6 +20,10 @@ mod shape;
 mod table;
 
 pub use coding::{decode, encode_into, fits};
-pub use laws::{lines_grow, one_end, read_in_place, step_by_step};
-pub use op::{Instr, Op, Operand, OperandKind};
+pub use instr::{Instr, push_instr};
+pub use laws::{ended_is_built, lines_grow, one_end, read_in_place, step_by_step};
+pub use op::{Op, Operand, OperandKind};
 pub use shape::Shape;
+
+#[cfg(test)]
+mod tests;

@@ -1,21 +1,33 @@
-// Operations, operands and instructions.
-use arrayvec::ArrayVec;
+// Operations and operands.
 
-/// An operation. Its discriminant is its number: the first byte of the short form.
+/// An operation. Its discriminant is its number: the first byte of the short form. The long form has
+/// 128 more. The first register is the one that is written, unless said otherwise.
 #[derive(Clone, Copy, Debug, PartialEq, Eq)]
 pub enum Op {
+    /// Register: undefined.
     LoadUndefined = 1,
+    /// Register, integer: the integer, which has to be safe.
     LoadInt = 6,
+    /// Register, text: the text.
     LoadString = 7,
+    /// Register, text: the value of the global variable of this name.
     LoadGlobal = 23,
+    /// Three registers: the sum of the second and the third.
     Add = 27,
+    /// Three registers: the difference.
     Sub = 28,
+    /// Three registers: the product.
     Mul = 29,
+    /// Register: the function ends with the value that it holds.
     Return = 64,
+    /// Four registers and a count: a call of the second, with the third as `this` and with the contents
+    /// of so many registers in a row as arguments, from the fourth on.
     Call = 83,
 }
 
-/// What an operand stands for, which decides how many bytes it takes.
+/// What an operand stands for, which decides how many bytes it takes. In the short form a register, an
+/// integer and a count take one byte, and the others two; in the long form a count takes one byte, and
+/// the others eight.
 #[derive(Clone, Copy, Debug, PartialEq, Eq)]
 pub enum OperandKind {
     Register,
@@ -44,12 +56,4 @@ impl Default for Operand {
     fn default() -> Operand {
         Operand::Count(0)
     }
-}
-
-/// An instruction, in its long form where `long` is set.
-#[derive(Debug, Drop)]
-pub struct Instr {
-    pub op: Op,
-    pub long: bool,
-    pub args: ArrayVec<Operand, 5>,
 }

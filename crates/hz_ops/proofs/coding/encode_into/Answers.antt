@@ -1,6 +1,8 @@
 use Rattle.std.proofs.Common.{◌<◌, length, arith, ap}
+use Rattle.std.proofs.Math.ListN.{length-set}
 use Rattle.hz_ops.specs.Table.{kinds_of}
 use Rattle.hz_ops.specs.Coding.{first_byte, operand_bytes}
+use Rattle.hz_ops.proofs.Fitting.{bytes_at_most, few_kinds}
 use Rattle.hz_ops.proofs.RoundTrip.{read_again, written_whole}
 use Rattle.hz_ops.proofs.coding.encode_into.Goals as goal
 
@@ -16,3 +18,6 @@ returns-clause-bytes c =
 
 pub returns-clause-again : goal.returns-clause-again
 returns-clause-again c = λ rest. read_again c.args.i.now rest c.requires.fits
+
+pub put_operands-requires-clause-room : goal.put_operands-requires-clause-room
+put_operands-requires-clause-room c = omega (arith, bytes_at_most c.args.i.now.long (kinds_of c.args.i.now.op) c.as_slice.result.now, few_kinds c.args.i.now.op, length-set c.args.buf.now 0 c.first_byte.result)
