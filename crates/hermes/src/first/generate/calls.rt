@@ -1,5 +1,5 @@
 // The code of calls of `print`.
-ghost use Rattle.std.specs.Prelude.{◌≡◌, ◌++◌, length, vec_len, IsTrue, OnOk, flat_map};
+ghost use Rattle.std.specs.Prelude.{◌≡◌, ◌++◌, length, IsTrue, OnOk, flat_map};
 ghost use Rattle.std.specs.List.{list_all};
 ghost use Rattle.hermes.specs.FirstTexts.{is_argument};
 ghost use Rattle.hermes.specs.Generated.{argument_code, opening_code, closing_code, call_code, argument_texts, calls_code, end_code};
@@ -41,7 +41,7 @@ fn push_argument(
     texts: &mut Vec<Units>,
 ) -> Result<(), Memory>
     requires { IsTrue (is_argument argument.now) }
-    ensures code { OnOk result (code.new.items ≡ code.old.items ++ argument_code (vec_len texts.old) argument.now) }
+    ensures code { OnOk result (code.new.items ≡ code.old.items ++ argument_code (length texts.old.items) argument.now) }
     ensures texts { OnOk result (texts.new.items ≡ texts.old.items ++ argument_texts argument.now) }
 {
     match argument {
@@ -57,7 +57,7 @@ fn push_text(
     code: &mut Vec<u8>,
     texts: &mut Vec<Units>,
 ) -> Result<(), Memory>
-    ensures code { OnOk result (code.new.items ≡ code.old.items ++ argument_code (vec_len texts.old) (Argument.Text text.now)) }
+    ensures code { OnOk result (code.new.items ≡ code.old.items ++ argument_code (length texts.old.items) (Argument.Text text.now)) }
     ensures texts { OnOk result (texts.new.items ≡ texts.old.items ++ argument_texts (Argument.Text text.now)) }
 {
     let id = texts.len() as u64;
@@ -74,7 +74,7 @@ fn push_call(
     texts: &mut Vec<Units>,
 ) -> Result<(), Memory>
     requires { IsTrue (is_argument argument.now) }
-    ensures code { OnOk result (code.new.items ≡ code.old.items ++ call_code (vec_len texts.old) argument.now) }
+    ensures code { OnOk result (code.new.items ≡ code.old.items ++ call_code (length texts.old.items) argument.now) }
     ensures texts { OnOk result (texts.new.items ≡ texts.old.items ++ argument_texts argument.now) }
 {
     push_opening(code)?;
@@ -90,7 +90,7 @@ pub(crate) fn push_calls(
     texts: &mut Vec<Units>,
 ) -> Result<(), Memory>
     requires { IsTrue (list_all is_argument calls.now) }
-    ensures code { OnOk result (code.new.items ≡ code.old.items ++ calls_code (vec_len texts.old) calls.now) }
+    ensures code { OnOk result (code.new.items ≡ code.old.items ++ calls_code (length texts.old.items) calls.now) }
     ensures texts { OnOk result (texts.new.items ≡ texts.old.items ++ flat_map argument_texts calls.now) }
 {
     for argument in calls {
