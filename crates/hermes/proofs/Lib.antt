@@ -1,3 +1,5 @@
 pub mod Between
 pub mod Instructions
 pub mod SumRuns
+pub mod CallRuns
+pub mod CallCodes
