@@ -1,9 +1,9 @@
 -- The code of calls, one call after the other.
 use Rattle.std.proofs.Common.{◌≡◌, ℕ, ◌+◌, ◌<◌, List, [], ◌∷◌, ◌++◌, length, take, get_or, refl, ap, ◌∙◌, sym, arith, append_assoc, append-nil, length-append}
-use Rattle.std.specs.Prelude.{flat_map}
+use Rattle.std.specs.Prelude.{flat_map, codes}
 use Rattle.std.proofs.lemmas.List.{take_more, flat_map_more}
 use Rattle.hermes.specs.declared.first.language.Argument.{Argument}
-use Rattle.hermes.specs.Generated.{call_code, argument_texts, calls_code}
+use Rattle.hermes.specs.Generated.{call_code, argument_texts, calls_code, end_code, script_code, script_texts}
 
 pub calls_code-append : (id : ℕ) (xs ys : List Argument) → calls_code id (xs ++ ys) ≡ calls_code id xs ++ calls_code (id + length (flat_map argument_texts xs)) ys
 calls_code-append id [] ys = ap (λ n. calls_code n ys) (omega arith)
@@ -32,3 +32,19 @@ pub one_more_text : (i : ℕ) (calls : List Argument) (a : Argument) (initial te
 one_more_text i calls a initial texts texts' within is texts_are more =
     more ∙ ap (λ ts. ts ++ argument_texts a) texts_are ∙ flat_map_more argument_texts initial (take i calls) a
     ∙ ap (λ xs. initial ++ flat_map argument_texts xs) (ap (λ x. take i calls ++ x ∷ []) is ∙ sym (take_more calls i a within))
+
+-- the texts and the code of a script, as they are put together
+pub texts_made : (none one all : List (List ℕ)) (name : List ℕ) (given calls : List Argument) → none ≡ [] → name ≡ codes "print" → one ≡ none ++ name ∷ [] → given ≡ calls → all ≡ one ++ flat_map argument_texts given → all ≡ script_texts calls
+texts_made none one all name given calls none_is name_is one_is given_is all_are =
+    all_are
+    ∙ ap (λ ts. ts ++ flat_map argument_texts given) (one_is ∙ ap (λ ts. ts ++ name ∷ []) none_is ∙ ap (λ t. t ∷ []) name_is)
+    ∙ ap (λ xs. codes "print" ∷ flat_map argument_texts xs) given_is
+
+pub code_made : (none one : List (List ℕ)) (name empty code whole : List ℕ) (given calls : List Argument) → none ≡ [] → one ≡ none ++ name ∷ [] → empty ≡ [] → given ≡ calls → code ≡ empty ++ calls_code (length one) given → whole ≡ code ++ end_code → whole ≡ script_code calls
+code_made none one name empty code whole given calls none_is one_is empty_is given_is code_is whole_is =
+    whole_is
+    ∙ ap (λ c. c ++ end_code)
+      (code_is
+      ∙ ap (λ c. c ++ calls_code (length one) given) empty_is
+      ∙ ap (λ ts. calls_code (length ts) given) (one_is ∙ ap (λ ts. ts ++ name ∷ []) none_is)
+      ∙ ap (calls_code 1) given_is)

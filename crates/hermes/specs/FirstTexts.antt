@@ -1,5 +1,5 @@
 -- First texts: which bytes spell which calls, and where bytes stop beginning such a text.
-use Rattle.std.specs.Prelude.{◌≡◌, ℕ, ◌+◌, ◌<◌, ◌≤◌, Bool, not, ◌&&◌, ◌||◌, ◌==◌, nat_le, IsTrue, List, [], ◌∷◌, ◌++◌, length, take, decimal, codes, flat_map, sum_by}
+use Rattle.std.specs.Prelude.{◌≡◌, ℕ, ◌+◌, ◌*◌, ◌<◌, ◌≤◌, Bool, not, ◌&&◌, ◌||◌, ◌==◌, nat_le, IsTrue, List, [], ◌∷◌, ◌++◌, length, take, decimal, codes, flat_map, sum_by}
 use Rattle.std.specs.List.{list_all}
 use Rattle.hermes.specs.declared.first.language.Sign.{Sign}
 use Rattle.hermes.specs.declared.first.language.Sign.TheVariants.{Plus, Minus}
@@ -13,9 +13,9 @@ use Rattle.hermes.specs.declared.first.language.Argument.TheVariants as argument
 abbrev pub directive : List ℕ
 directive = 34 ∷ (codes "use strict" ++ 34 ∷ 59 ∷ [])
 
-abbrev pub sign_token : Sign → List ℕ
-sign_token Plus = 43 ∷ []
-sign_token Minus = 45 ∷ []
+abbrev pub sign_byte : Sign → ℕ
+sign_byte Plus = 43
+sign_byte Minus = 45
 
 abbrev pub factor_tokens : ℕ → List (List ℕ)
 factor_tokens n = (42 ∷ []) ∷ decimal n ∷ []
@@ -24,7 +24,7 @@ abbrev pub term_tokens : Term → List (List ℕ)
 term_tokens t = decimal t.first ∷ flat_map factor_tokens t.others
 
 abbrev pub addend_tokens : Addend → List (List ℕ)
-addend_tokens a = sign_token a.sign ∷ term_tokens a.term
+addend_tokens a = (sign_byte a.sign ∷ []) ∷ term_tokens a.term
 
 abbrev pub sum_tokens : Sum → List (List ℕ)
 sum_tokens s = term_tokens s.first ++ flat_map addend_tokens s.others
@@ -90,3 +90,14 @@ pub record IsStuck (bytes : List ℕ) (at : ℕ) : Type 0 where
   pub within : at ≤ length bytes
   pub begins : Begins (take at bytes)
   pub longest : (n : ℕ) → at < n → n ≤ length bytes → Begins (take n bytes) → ⊥
+
+-- How many bytes a text has at least, without its directive: nine for each call, two for each further number, and those of its texts.
+abbrev pub further_numbers : Sum → ℕ
+further_numbers s = length s.first.others + sum_by (λ a. 1 + length a.term.others) s.others
+
+abbrev pub weight_of : Argument → ℕ
+weight_of (argument.Text text) = 9 + length text
+weight_of (argument.Sum s) = 9 + 2 * further_numbers s
+
+abbrev pub weight : List Argument → ℕ
+weight calls = sum_by weight_of calls

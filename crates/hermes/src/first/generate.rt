@@ -6,9 +6,8 @@
 ghost use Rattle.std.specs.Prelude.{◌≡◌, ◌≤◌, ◌<◌, IsTrue, IfOk, length, All};
 ghost use Rattle.std.specs.List.{list_all, concat};
 ghost use Rattle.hz_ops.specs.Runs.{start_of, Ends, IsBuilt};
-ghost use Rattle.hermes.specs.FirstTexts.{is_argument};
+ghost use Rattle.hermes.specs.FirstTexts.{is_argument, weight};
 ghost use Rattle.hermes.specs.Saying.{lines_of, end_of};
-ghost use Rattle.hermes.specs.Weight.{weight};
 ghost use Rattle.hermes.specs.Scripts.{script, IsShort};
 
 mod calls;
