@@ -11,15 +11,14 @@ ghost use Rattle.hermes.specs.Saying.{lines_of, end_of};
 ghost use Rattle.hermes.specs.Scripts.{script, IsShort};
 
 mod calls;
+mod instructions;
 mod sums;
 
 use crate::first::generate::calls::{push_calls, push_return};
+use crate::first::generate::instructions::REGISTERS;
 use crate::first::language::Calls;
 use hz_value::{Memory, Units};
 use std::alloc::Global;
-
-/// How many registers the code has.
-pub const REGISTERS: u16 = 5;
 
 /// The code of a script, its texts by their ids, and how many registers it has.
 #[derive(Debug, Drop)]

@@ -4,7 +4,8 @@ ghost use Rattle.std.specs.List.{list_all};
 ghost use Rattle.hermes.specs.FirstTexts.{is_argument};
 ghost use Rattle.hermes.specs.Generated.{argument_code, opening_code, closing_code, call_code, argument_texts, calls_code, end_code};
 
-use crate::first::generate::sums::{ARGUMENT, CALLEE, THIS, push, push_sum};
+use crate::first::generate::instructions::{ARGUMENT, CALLEE, THIS, push};
+use crate::first::generate::sums::push_sum;
 use crate::first::language::{Argument, Text};
 use hz_ops::{Op, Operand};
 use hz_value::{Memory, Units};

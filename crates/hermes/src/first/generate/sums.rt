@@ -4,36 +4,12 @@ ghost use Rattle.std.specs.List.{list_all};
 ghost use Rattle.hz_ops.specs.Table.{kinds_of};
 ghost use Rattle.hz_ops.specs.Coding.{operands_fit};
 ghost use Rattle.hermes.specs.FirstTexts.{is_number, is_term, is_addend, is_sum};
-ghost use Rattle.hermes.specs.Generated.{bytes_of, load_int, combine, factor_code, term_code, addend_code, sum_code, sign_operation};
+ghost use Rattle.hermes.specs.Generated.{load_int, combine, factor_code, term_code, addend_code, sum_code, sign_operation};
 
+use crate::first::generate::instructions::{ARGUMENT, FACTOR, TERM, push};
 use crate::first::language::{Addend, Sign, Sum, Term};
-use hz_ops::{Instr, Op, Operand, push_instr};
+use hz_ops::{Op, Operand};
 use hz_value::Memory;
-
-/// The register of the callee, and later of the call's result.
-pub(crate) const CALLEE: u64 = 0;
-
-/// The register of `this`.
-pub(crate) const THIS: u64 = 1;
-
-/// The register of the argument, where a sum is added up.
-pub(crate) const ARGUMENT: u64 = 2;
-
-/// The register where a term is multiplied.
-const TERM: u64 = 3;
-
-/// The register of a factor.
-const FACTOR: u64 = 4;
-
-/// Appends the instruction, in the short form where the operands fit it.
-#[tactic(auto, unfolding(crate::specs::Generated::bytes_of))]
-pub(crate) fn push(code: &mut Vec<u8>, op: Op, operands: &[Operand]) -> Result<(), Memory>
-    requires few { length operands.now ≤ 5 }
-    requires fits { operands_fit true (kinds_of op) operands.now ≡ true }
-    ensures { OnOk result (code.new.items ≡ code.old.items ++ bytes_of op operands.now) }
-{
-    push_instr(code, &Instr::shortest(op, operands))
-}
 
 /// Appends code that loads the number.
 fn push_number(code: &mut Vec<u8>, to: u64, number: u64) -> Result<(), Memory>
