@@ -1,0 +1,5 @@
+pub mod Image
+pub mod Layout
+pub mod Module
+pub mod Opening
+pub mod Rules
