@@ -20,7 +20,7 @@ use Rattle.hermes.specs.declared.first.language.Sum.{Sum}
 use Rattle.hermes.specs.declared.first.language.Argument.{Argument}
 use Rattle.hermes.specs.declared.first.language.Argument.TheVariants as argument
 use Rattle.hermes.specs.FirstTexts.{is_text_byte, is_text, is_argument, weight_of, weight}
-use Rattle.hermes.specs.Scripts.{IsShort}
+use Rattle.hz_file.specs.Image.{IsShortText}
 use Rattle.hermes.specs.Generated.{argument_register, term, factor, bytes_of, load_int, combine, factor_code, term_code, addend_code, sum_code, argument_code, opening_code, closing_code, call_code, argument_texts, calls_code, end_code, script_code, script_texts, sign_operation}
 
 -- ---- weights
@@ -143,21 +143,21 @@ text_low (b ∷ text) e =
     let here : (is_text_byte b ≡ true) × (list_all is_text_byte text ≡ true) = both (is_text_byte b) (list_all is_text_byte text) e in
     all_first (λ unit. unit < 128) b text (text_byte_low b here.0) (text_low text here.1)
 
-text_short : (text : List ℕ) → is_text text ≡ true → IsShort text
+text_short : (text : List ℕ) → is_text text ≡ true → IsShortText text
 text_short text e =
     let here : (nat_le (length text) 254 ≡ true) × (list_all is_text_byte text ≡ true) = both (nat_le (length text) 254) (list_all is_text_byte text) e in
     let few : length text ≤ 254 = grind (arith, here.0) in
     (few, text_low text here.1)
 
-argument_short : (a : Argument) → is_argument a ≡ true → All IsShort (argument_texts a)
-argument_short (argument.Text text) e = all_first IsShort text [] (text_short text e) (all_of_none IsShort)
-argument_short (argument.Sum s) e = all_of_none IsShort
+argument_short : (a : Argument) → is_argument a ≡ true → All IsShortText (argument_texts a)
+argument_short (argument.Text text) e = all_first IsShortText text [] (text_short text e) (all_of_none IsShortText)
+argument_short (argument.Sum s) e = all_of_none IsShortText
 
-texts_short : (calls : List Argument) → list_all is_argument calls ≡ true → All IsShort (flat_map argument_texts calls)
-texts_short [] e = all_of_none IsShort
+texts_short : (calls : List Argument) → list_all is_argument calls ≡ true → All IsShortText (flat_map argument_texts calls)
+texts_short [] e = all_of_none IsShortText
 texts_short (a ∷ calls) e =
     let here : (is_argument a ≡ true) × (list_all is_argument calls ≡ true) = both (is_argument a) (list_all is_argument calls) e in
-    All-append IsShort (argument_texts a) (flat_map argument_texts calls) (argument_short a here.0) (texts_short calls here.1)
+    All-append IsShortText (argument_texts a) (flat_map argument_texts calls) (argument_short a here.0) (texts_short calls here.1)
 
-pub script_short : (calls : List Argument) → list_all is_argument calls ≡ true → All IsShort (script_texts calls)
-script_short calls e = all_first IsShort (codes "print") (flat_map argument_texts calls) (text_short (codes "print") refl) (texts_short calls e)
+pub script_short : (calls : List Argument) → list_all is_argument calls ≡ true → All IsShortText (script_texts calls)
+script_short calls e = all_first IsShortText (codes "print") (flat_map argument_texts calls) (text_short (codes "print") refl) (texts_short calls e)

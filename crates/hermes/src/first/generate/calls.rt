@@ -7,6 +7,7 @@ ghost use Rattle.hermes.specs.Generated.{argument_code, opening_code, closing_co
 use crate::first::generate::instructions::{ARGUMENT, CALLEE, THIS, push};
 use crate::first::generate::sums::push_sum;
 use crate::first::language::{Argument, Text};
+use hz_file::Texts;
 use hz_ops::{Op, Operand};
 use hz_value::{Memory, Units};
 use std::alloc::Global;
@@ -39,11 +40,11 @@ fn push_argument(
     alloc: Global,
     argument: &Argument<'_>,
     code: &mut Vec<u8>,
-    texts: &mut Vec<Units>,
+    texts: &mut Texts,
 ) -> Result<(), Memory>
     requires { IsTrue (is_argument argument.now) }
-    ensures code { OnOk result (code.new.items ≡ code.old.items ++ argument_code (length texts.old.items) argument.now) }
-    ensures texts { OnOk result (texts.new.items ≡ texts.old.items ++ argument_texts argument.now) }
+    ensures code { OnOk result (code.new.items ≡ code.old.items ++ argument_code (length texts.old) argument.now) }
+    ensures texts { OnOk result (texts.new ≡ texts.old ++ argument_texts argument.now) }
 {
     match argument {
         Argument::Text(text) => push_text(alloc, text, code, texts),
@@ -56,15 +57,14 @@ fn push_text(
     alloc: Global,
     text: &Text<'_>,
     code: &mut Vec<u8>,
-    texts: &mut Vec<Units>,
+    texts: &mut Texts,
 ) -> Result<(), Memory>
-    ensures code { OnOk result (code.new.items ≡ code.old.items ++ argument_code (length texts.old.items) (Argument.Text text.now)) }
-    ensures texts { OnOk result (texts.new.items ≡ texts.old.items ++ argument_texts (Argument.Text text.now)) }
+    ensures code { OnOk result (code.new.items ≡ code.old.items ++ argument_code (length texts.old) (Argument.Text text.now)) }
+    ensures texts { OnOk result (texts.new ≡ texts.old ++ argument_texts (Argument.Text text.now)) }
 {
     let id = texts.len() as u64;
     push(code, Op::LoadString, &[Operand::Register(ARGUMENT), Operand::Text(id)])?;
-    texts.push(Units::from_bytes(alloc, text.bytes())?)?;
-    Ok(())
+    texts.push(Units::from_bytes(alloc, text.bytes())?)
 }
 
 /// Appends the code of a call with this argument.
@@ -72,11 +72,11 @@ fn push_call(
     alloc: Global,
     argument: &Argument<'_>,
     code: &mut Vec<u8>,
-    texts: &mut Vec<Units>,
+    texts: &mut Texts,
 ) -> Result<(), Memory>
     requires { IsTrue (is_argument argument.now) }
-    ensures code { OnOk result (code.new.items ≡ code.old.items ++ call_code (length texts.old.items) argument.now) }
-    ensures texts { OnOk result (texts.new.items ≡ texts.old.items ++ argument_texts argument.now) }
+    ensures code { OnOk result (code.new.items ≡ code.old.items ++ call_code (length texts.old) argument.now) }
+    ensures texts { OnOk result (texts.new ≡ texts.old ++ argument_texts argument.now) }
 {
     push_opening(code)?;
     push_argument(alloc, argument, code, texts)?;
@@ -88,11 +88,11 @@ pub(crate) fn push_calls(
     alloc: Global,
     calls: &[Argument<'_>],
     code: &mut Vec<u8>,
-    texts: &mut Vec<Units>,
+    texts: &mut Texts,
 ) -> Result<(), Memory>
     requires { IsTrue (list_all is_argument calls.now) }
-    ensures code { OnOk result (code.new.items ≡ code.old.items ++ calls_code (length texts.old.items) calls.now) }
-    ensures texts { OnOk result (texts.new.items ≡ texts.old.items ++ flat_map argument_texts calls.now) }
+    ensures code { OnOk result (code.new.items ≡ code.old.items ++ calls_code (length texts.old) calls.now) }
+    ensures texts { OnOk result (texts.new ≡ texts.old ++ flat_map argument_texts calls.now) }
 {
     for argument in calls {
         push_call(alloc, argument, code, texts)?;
