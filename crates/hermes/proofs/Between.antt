@@ -1,5 +1,5 @@
 -- Code between two places, and runs that go on from one place to another.
-use Rattle.std.proofs.Common.{◌≡◌, ℕ, List, [], ◌∷◌, ◌++◌, length, refl, ap, ◌∙◌, sym, append_assoc, append-nil, ℤ}
+use Rattle.std.proofs.Common.{◌≡◌, ℕ, List, [], ◌++◌, length, refl, ap, ◌∙◌, sym, append_assoc, append-nil, ℤ}
 use Rattle.std.specs.Prelude.{Option, Some, None, option_and_then}
 use Rattle.hz_value.specs.declared.leaving.Left.TheVariants as left
 use Rattle.hz_ops.specs.Contents.{Content}
@@ -19,17 +19,17 @@ pub record Between (m : Module) (before code end : List ℕ) : Type 0 where
 
 pub front_part : (m : Module) (before x y end : List ℕ) → Between m before (x ++ y) end → Between m before x (before ++ x)
 front_part m before x y end b = record {
-    rest = y ++ b.rest;
-    whole = b.whole ∙ ap (λ e. e ++ b.rest) (b.reach ∙ sym (append_assoc before x y)) ∙ append_assoc (before ++ x) y b.rest;
-    reach = refl;
-  }
+  rest = y ++ b.rest;
+  whole = b.whole ∙ ap (λ e. e ++ b.rest) (b.reach ∙ sym (append_assoc before x y)) ∙ append_assoc (before ++ x) y b.rest;
+  reach = refl;
+}
 
 pub back_part : (m : Module) (before x y end : List ℕ) → Between m before (x ++ y) end → Between m (before ++ x) y end
 back_part m before x y end b = record {
-    rest = b.rest;
-    whole = b.whole;
-    reach = b.reach ∙ sym (append_assoc before x y);
-  }
+  rest = b.rest;
+  whole = b.whole;
+  reach = b.reach ∙ sym (append_assoc before x y);
+}
 
 pub same_code : (m : Module) (before x y end : List ℕ) → x ≡ y → Between m before x end → Between m before y end
 same_code m before x y end e b = record { rest = b.rest; whole = b.whole; reach = b.reach ∙ ap (λ c. before ++ c) e }
@@ -67,10 +67,10 @@ Gives m lines s end Holds (Some z) = Came m lines s end (Holds z)
 pub gives_behind : (m : Module) (lines : List (List ℕ)) (s s' : System) (end : List ℕ) (Holds : ℤ → List Content → Type 0) (o : Option ℤ) → Leads m s s' → Gives m lines s' end Holds o → Gives m lines s end Holds o
 gives_behind m lines s s' end Holds None leads gives = leads.by lines (LeftFor left.NotSafe) gives
 gives_behind m lines s s' end Holds (Some z) leads gives = record {
-    registers = gives.registers;
-    holds = gives.holds;
-    leads = leads_on m s s' (running lines (at end gives.registers)) leads gives.leads;
-  }
+  registers = gives.registers;
+  holds = gives.holds;
+  leads = leads_on m s s' (running lines (at end gives.registers)) leads gives.leads;
+}
 
 pub gives_next : (m : Module) (lines : List (List ℕ)) (s : System) (middle end : List ℕ) (Middle Holds : ℤ → List Content → Type 0) (f : ℤ → Option ℤ) (o : Option ℤ) → Gives m lines s middle Middle o → ((z : ℤ) (registers : List Content) → Middle z registers → Gives m lines (running lines (at middle registers)) end Holds (f z)) → Gives m lines s end Holds (option_and_then f o)
 gives_next m lines s middle end Middle Holds f None first next = first

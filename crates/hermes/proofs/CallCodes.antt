@@ -1,5 +1,5 @@
 -- The code of calls, one call after the other.
-use Rattle.std.proofs.Common.{◌≡◌, ℕ, ◌+◌, ◌<◌, List, [], ◌∷◌, ◌++◌, length, take, get_or, refl, ap, ◌∙◌, sym, arith, append_assoc, append-nil, length-append}
+use Rattle.std.proofs.Common.{◌≡◌, ℕ, ◌+◌, ◌<◌, List, [], ◌∷◌, ◌++◌, length, take, get_or, ap, ◌∙◌, sym, arith, append_assoc, append-nil, length-append}
 use Rattle.std.specs.Prelude.{flat_map, codes}
 use Rattle.std.proofs.lemmas.List.{take_more, flat_map_more}
 use Rattle.hermes.specs.declared.first.language.Argument.{Argument}
@@ -20,7 +20,7 @@ one_more id now i calls a initial code code' within is now_is code_is more =
     let front : List Argument = take i calls in
     let next : ℕ = id + length (flat_map argument_texts front) in
     let whole : calls_code id (take (i + 1) calls) ≡ calls_code id front ++ (call_code next a ++ []) =
-        ap (calls_code id) (take_more calls i a within ∙ ap (λ x. front ++ x ∷ []) (sym is)) ∙ calls_code-append id front (a ∷ []) in
+    ap (calls_code id) (take_more calls i a within ∙ ap (λ x. front ++ x ∷ []) (sym is)) ∙ calls_code-append id front (a ∷ []) in
     more
     ∙ ap (λ n. code ++ call_code n a) now_is
     ∙ ap (λ c. c ++ call_code next a) code_is
@@ -44,7 +44,7 @@ pub code_made : (none one : List (List ℕ)) (name empty code whole : List ℕ) 
 code_made none one name empty code whole given calls none_is one_is empty_is given_is code_is whole_is =
     whole_is
     ∙ ap (λ c. c ++ end_code)
-      (code_is
-      ∙ ap (λ c. c ++ calls_code (length one) given) empty_is
-      ∙ ap (λ ts. calls_code (length ts) given) (one_is ∙ ap (λ ts. ts ++ name ∷ []) none_is)
-      ∙ ap (calls_code 1) given_is)
+    (code_is
+    ∙ ap (λ c. c ++ calls_code (length one) given) empty_is
+    ∙ ap (λ ts. calls_code (length ts) given) (one_is ∙ ap (λ ts. ts ++ name ∷ []) none_is)
+    ∙ ap (calls_code 1) given_is)

@@ -7,7 +7,6 @@ use Rattle.hz_ops.specs.Runs.{Done, LeftFor}
 use Rattle.hermes.specs.declared.first.language.Sign.TheVariants.{Plus, Minus}
 use Rattle.hermes.specs.declared.first.language.Term.{Term}
 use Rattle.hermes.specs.declared.first.language.Addend.{Addend}
-use Rattle.hermes.specs.declared.first.language.Sum.{Sum}
 use Rattle.hermes.specs.declared.first.language.Argument.{Argument}
 use Rattle.hermes.specs.declared.first.language.Argument.TheVariants as argument
 use Rattle.hermes.specs.Saying.{lines_of, end_of}

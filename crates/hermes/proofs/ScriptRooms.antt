@@ -1,5 +1,5 @@
 -- How many bytes the code of a first text takes at most, and how many texts it has of which lengths.
-use Rattle.std.proofs.Common.{◌≡◌, ℕ, zero, suc, ◌+◌, ◌*◌, ◌<◌, ◌≤◌, Bool, true, false, List, [], ◌∷◌, ◌++◌, length, get_or, refl, ap, ◌∙◌, sym, arith, length-append, pos, lit<, lit≤}
+use Rattle.std.proofs.Common.{◌≡◌, ℕ, zero, suc, ◌+◌, ◌*◌, ◌<◌, ◌≤◌, true, List, [], ◌∷◌, ◌++◌, length, refl, ap, arith, length-append, pos, lit≤}
 use Rattle.std.specs.Prelude.{flat_map, sum_by, All, codes, nat_le}
 use Rattle.std.specs.List.{list_all, concat}
 use Rattle.std.proofs.lemmas.List.Elements.{All-append}
@@ -10,18 +10,17 @@ use Rattle.hz_ops.specs.declared.op.Op.TheVariants as op
 use Rattle.hz_ops.specs.declared.op.Operand.{Operand}
 use Rattle.hz_ops.specs.declared.op.Operand.TheVariants.{Register, Text, Int, Count}
 use Rattle.hz_ops.specs.Table.{kinds_of}
-use Rattle.hz_ops.specs.Coding.{operands_fit, shortest_of}
+use Rattle.hz_ops.specs.Coding.{shortest_of}
 use Rattle.hz_ops.proofs.Fitting.{both, bytes_at_most}
 use Rattle.hermes.specs.declared.first.language.Sign.{Sign}
 use Rattle.hermes.specs.declared.first.language.Sign.TheVariants.{Plus, Minus}
 use Rattle.hermes.specs.declared.first.language.Term.{Term}
 use Rattle.hermes.specs.declared.first.language.Addend.{Addend}
-use Rattle.hermes.specs.declared.first.language.Sum.{Sum}
 use Rattle.hermes.specs.declared.first.language.Argument.{Argument}
 use Rattle.hermes.specs.declared.first.language.Argument.TheVariants as argument
 use Rattle.hermes.specs.FirstTexts.{is_text_byte, is_text, is_argument, weight_of, weight}
 use Rattle.hz_file.specs.Image.{IsShortText}
-use Rattle.hermes.specs.Generated.{argument_register, term, factor, bytes_of, load_int, combine, factor_code, term_code, addend_code, sum_code, argument_code, opening_code, closing_code, call_code, argument_texts, calls_code, end_code, script_code, script_texts, sign_operation}
+use Rattle.hermes.specs.Generated.{argument_register, term, factor, bytes_of, load_int, combine, factor_code, term_code, addend_code, argument_code, opening_code, closing_code, call_code, argument_texts, calls_code, end_code, script_code, script_texts, sign_operation}
 
 -- ---- weights
 

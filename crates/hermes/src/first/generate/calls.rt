@@ -18,7 +18,11 @@ const PRINT: u64 = 0;
 fn push_opening(code: &mut Vec<u8>) -> Result<(), Memory>
     ensures { OnOk result (code.new.items ≡ code.old.items ++ opening_code) }
 {
-    push(code, Op::LoadGlobal, &[Operand::Register(CALLEE), Operand::Text(PRINT)])?;
+    push(
+        code,
+        Op::LoadGlobal,
+        &[Operand::Register(CALLEE), Operand::Text(PRINT)],
+    )?;
     push(code, Op::LoadUndefined, &[Operand::Register(THIS)])
 }
 
@@ -63,7 +67,11 @@ fn push_text(
     ensures texts { OnOk result (texts.new ≡ texts.old ++ argument_texts (Argument.Text text.now)) }
 {
     let id = texts.len() as u64;
-    push(code, Op::LoadString, &[Operand::Register(ARGUMENT), Operand::Text(id)])?;
+    push(
+        code,
+        Op::LoadString,
+        &[Operand::Register(ARGUMENT), Operand::Text(id)],
+    )?;
     texts.push(Units::from_bytes(alloc, text.bytes())?)
 }
 

@@ -16,7 +16,11 @@ fn push_number(code: &mut Vec<u8>, to: u64, number: u64) -> Result<(), Memory>
     requires { IsTrue (is_number number) }
     ensures { OnOk result (code.new.items ≡ code.old.items ++ load_int to number) }
 {
-    push(code, Op::LoadInt, &[Operand::Register(to), Operand::Int(number as i64)])
+    push(
+        code,
+        Op::LoadInt,
+        &[Operand::Register(to), Operand::Int(number as i64)],
+    )
 }
 
 /// Appends code that combines the numbers of two registers in the first of them.
@@ -24,7 +28,15 @@ fn push_operation(code: &mut Vec<u8>, op: Op, to: u64, from: u64) -> Result<(), 
     requires { operands_fit true (kinds_of op) (Operand.Register to ∷ Operand.Register to ∷ Operand.Register from ∷ []) ≡ true }
     ensures { OnOk result (code.new.items ≡ code.old.items ++ combine op to from) }
 {
-    push(code, op, &[Operand::Register(to), Operand::Register(to), Operand::Register(from)])
+    push(
+        code,
+        op,
+        &[
+            Operand::Register(to),
+            Operand::Register(to),
+            Operand::Register(from),
+        ],
+    )
 }
 
 /// Appends code that multiplies the number in a register by each factor.

@@ -1,11 +1,10 @@
-use Rattle.std.proofs.Common.{◌≡◌, ◌<◌, ◌≤◌, ◌^◌, ◌++◌, [], ◌∷◌, List, ℕ, length, arith, ap, ◌∙◌, sym, subst, length-append}
+use Rattle.std.proofs.Common.{◌≡◌, List, ℕ, length, arith, ap, sym, subst, length-append}
 use Rattle.std.specs.Prelude.{codes, All, flat_map}
 use Rattle.std.specs.List.{concat}
 use Rattle.hz_file.specs.Image.{IsShortText}
 use Rattle.hz_ops.specs.Activations.{Module}
-use Rattle.hz_ops.specs.Runs.{start_of, Ends}
+use Rattle.hz_ops.specs.Runs.{start_of}
 use Rattle.hz_ops.proofs.Running.{ended_is_built}
-use Rattle.hermes.specs.declared.first.language.Argument.{Argument}
 use Rattle.hermes.specs.Saying.{lines_of, end_of}
 use Rattle.hermes.specs.Scripts.{script}
 use Rattle.hermes.specs.Generated.{argument_texts, script_code, script_texts}
@@ -26,7 +25,7 @@ returns-clause-built c =
     let code_is : c.push_return.new.code.items ≡ script_code c.args.calls.now = code_made _ _ c.in_ok-from_bytes.field-0 _ _ _ c.as_slice.result.now c.args.calls.now c.new-texts.ensures c.in_ok-push.ensures.ok c.new-code.ensures.items c.as_slice.ensures c.in_ok-push_calls.ensures.code c.in_ok-push_return.ensures in
     let m : Module = script c.push_return.new.code.items c.push_calls.new.texts 5 in
     ended_is_built m (start_of m) (lines_of c.args.calls.now) (end_of c.args.calls.now)
-        (script_says c.args.calls.now c.push_return.new.code.items c.push_calls.new.texts c.requires.parts (omega (arith, calls_weight c.args.calls.now, c.requires.small)) code_is texts_are)
+    (script_says c.args.calls.now c.push_return.new.code.items c.push_calls.new.texts c.requires.parts (omega (arith, calls_weight c.args.calls.now, c.requires.small)) code_is texts_are)
 
 pub returns-clause-code : goal.returns-clause-code
 returns-clause-code c =

@@ -1,6 +1,4 @@
-use Rattle.std.proofs.Common.{◌≡◌, ◌+◌, length, arith, length-append, ap, ◌∙◌}
-use Rattle.std.specs.Prelude.{flat_map}
-use Rattle.hermes.specs.Generated.{argument_texts}
+use Rattle.std.proofs.Common.{length, length-append, ap, ◌∙◌}
 use Rattle.hermes.proofs.CallCodes.{one_more, one_more_text}
 use Rattle.hermes.proofs.first.generate.calls.push_calls.Goals as goal
 

@@ -1,4 +1,4 @@
-use Rattle.std.proofs.Common.{◌≡◌, ◌++◌, take, length}
+use Rattle.std.proofs.Common.{◌≡◌, ◌++◌, take}
 use Rattle.std.specs.Prelude.{flat_map}
 use Rattle.hermes.specs.Generated.{addend_code}
 use Rattle.hermes.proofs.first.generate.sums.push_addends.Given as goal
