@@ -7,16 +7,16 @@ use Rattle.hermes.specs.declared.first.language.Argument.{Argument}
 use Rattle.hermes.specs.declared.status.Refusal.TheVariants.{NotYet}
 use Rattle.hermes.specs.declared.status.Status.{Status}
 use Rattle.hermes.specs.declared.status.Status.TheVariants as status
-use Rattle.hermes.specs.FirstTexts.{IsStuck}
-use Rattle.hermes.specs.Outcomes.{IsRunnable, IsRefused, Printed, PrintedFront, Outcome, OutcomeAt, OutcomeOf}
+use Rattle.hermes.specs.FirstTexts.{IsAccepted, IsRefused, IsStuck}
+use Rattle.hermes.specs.Outcomes.{Printed, PrintedFront, Outcome, OutcomeAt, OutcomeOf}
 
 -- a source of which fewer than n bytes come is those bytes
 pub all_of : (n : ℕ) (s : List ℕ) → length (take n s) < n → take n s ≡ s
 all_of n s short = take_all n s (grind (arith, length-take n s, short))
 
-pub runnable : (n : ℕ) (s : List ℕ) (calls : List Argument) → 4095 < n → IsRunnable (take n s) calls → IsRunnable s calls
-runnable n s calls big r =
-    subst (λ (x : List ℕ). IsRunnable x calls) (all_of n s (omega (arith, r.short))) r
+pub accepted : (n : ℕ) (s : List ℕ) (calls : List Argument) → 4095 < n → IsAccepted (take n s) calls → IsAccepted s calls
+accepted n s calls big r =
+    subst (λ (x : List ℕ). IsAccepted x calls) (all_of n s (omega (arith, r.0))) r
 
 -- by whether what was read is too long
 pub refused_by : (n : ℕ) (s : List ℕ) (at : ℕ) (long : Bool) → n ≡ 4096 → nat_lt 4095 (length (take n s)) ≡ long → MatchBool long (at ≡ 4095) (IsStuck (take n s) at) → IsRefused s at
@@ -32,12 +32,12 @@ pub refused : (n : ℕ) (s : List ℕ) (at : ℕ) → n ≡ 4096 → IsRefused (
 refused n s at is r = refused_by n s at (nat_lt 4095 (length (take n s))) is refl r
 
 pub whole : (n : ℕ) (end : Status) (s : List ℕ) (old new : Option (List ℕ)) → n ≡ 4096 → Outcome end (take n s) old new → Outcome end s old new
-whole n status.Done s old new is (calls, r, e, a) = (calls, runnable n s calls (omega (arith, is)) r, e, a)
-whole n (status.Left reason) s old new is (calls, r, e, a) = (calls, runnable n s calls (omega (arith, is)) r, e, a)
+whole n status.Done s old new is (calls, r, e, a) = (calls, accepted n s calls (omega (arith, is)) r, e, a)
+whole n (status.Left reason) s old new is (calls, r, e, a) = (calls, accepted n s calls (omega (arith, is)) r, e, a)
 whole n (status.Refused (NotYet at)) s old new is (r, k) = (refused n s at is r, k)
 whole n status.ReadFault s old new is k = k
-whole n status.WriteFault s old new is (calls, r, a) = (calls, runnable n s calls (omega (arith, is)) r, a)
-whole n status.Memory s old new is (inl (calls, r, a)) = inl (calls, runnable n s calls (omega (arith, is)) r, a)
+whole n status.WriteFault s old new is (calls, r, a) = (calls, accepted n s calls (omega (arith, is)) r, a)
+whole n status.Memory s old new is (inl (calls, r, a)) = inl (calls, accepted n s calls (omega (arith, is)) r, a)
 whole n status.Memory s old new is (inr k) = inr k
 whole n (status.Usage word) s old new is none = none
 

@@ -9,7 +9,7 @@ use Rattle.hermes.specs.declared.first.language.Argument.{Argument}
 use Rattle.hermes.specs.declared.first.language.FirstFault.{FirstFault}
 use Rattle.hermes.specs.declared.first.language.FirstFault.TheVariants as fault
 use Rattle.hermes.specs.FileCode.{code_module}
-use Rattle.hermes.specs.Outcomes.{IsRunnable, IsRefused}
+use Rattle.hermes.specs.FirstTexts.{IsAccepted, IsRefused}
 use Rattle.hermes.specs.Saying.{lines_of, end_of}
 
 -- the code of a file
@@ -18,7 +18,7 @@ code_in file = code_module (module_of file)
 
 -- The file can be opened, holds the source, and its code prints what the source says and ends as it ends.
 pub record IsCompiled (source : List ℕ) (calls : List Argument) (file : List ℕ) : Type 0 where
-  pub runnable : IsRunnable source calls
+  pub accepted : IsAccepted source calls
   pub magic : HasMagic file
   pub opens : rule file ≡ None
   pub source_kept : (module_of file).source ≡ source

@@ -1,5 +1,5 @@
 -- What the status of a call says of the source and of what went out.
-use Rattle.std.specs.Prelude.{◌≡◌, ◌⊎◌, ◌≤◌, ℕ, List, length, nat_lt, Option, MatchBool, Some, None}
+use Rattle.std.specs.Prelude.{◌≡◌, ◌⊎◌, ℕ, List, Option, Some, None}
 use Rattle.std.specs.Io.KnownBytes.{Appends, Keeps}
 use Rattle.hz_ops.specs.Runs.{End, Done, LeftFor}
 use Rattle.hz_io.specs.Contents.{Contents}
@@ -7,29 +7,19 @@ use Rattle.hermes.specs.declared.first.language.Argument.{Argument}
 use Rattle.hermes.specs.declared.status.Refusal.TheVariants.{NotYet}
 use Rattle.hermes.specs.declared.status.Status.{Status}
 use Rattle.hermes.specs.declared.status.Status.TheVariants as status
-use Rattle.hermes.specs.FirstTexts.{IsFirst, IsStuck}
+use Rattle.hermes.specs.FirstTexts.{IsAccepted, IsRefused}
 use Rattle.hermes.specs.Saying.{lines_of, end_of}
 use Rattle.hermes.specs.Printing.{printed, AppendsPrefix}
-
--- The source is a first text with these calls, and no longer than a source may be so far.
-pub record IsRunnable (source : List ℕ) (calls : List Argument) : Type 0 where
-  pub short : length source ≤ 4095
-  pub first : IsFirst calls source
-
--- The source is none, and this is the place that the refusal names: 4095 for a longer source, else the length of
--- the longest prefix that begins a first text.
-abbrev pub IsRefused : List ℕ → ℕ → Type 0
-IsRefused source at = MatchBool (nat_lt 4095 (length source)) (at ≡ 4095) (IsStuck source at)
 
 -- The source runs, ends so, and all of its lines went out.
 abbrev pub Printed : End → List ℕ → Option (List ℕ) → Option (List ℕ) → Type 0
 Printed end source old new =
-    (calls : List Argument) × IsRunnable source calls × (end_of calls ≡ end) × Appends old new (printed (lines_of calls))
+    (calls : List Argument) × IsAccepted source calls × (end_of calls ≡ end) × Appends old new (printed (lines_of calls))
 
 -- The source runs, and a front of its lines' bytes went out.
 abbrev pub PrintedFront : List ℕ → Option (List ℕ) → Option (List ℕ) → Type 0
 PrintedFront source old new =
-    (calls : List Argument) × IsRunnable source calls × AppendsPrefix old new (printed (lines_of calls))
+    (calls : List Argument) × IsAccepted source calls × AppendsPrefix old new (printed (lines_of calls))
 
 -- What a status says of the source, and of what went out: `old` is what standard output had got before the call,
 -- and `new` behind it, where it tells this. Which case comes is determined by the source, but for faults and memory.

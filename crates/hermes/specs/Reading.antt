@@ -13,8 +13,8 @@ use Rattle.hermes.specs.declared.first.state.Next.{Next}
 use Rattle.hermes.specs.declared.first.state.Next.TheVariants as next
 use Rattle.hermes.specs.declared.first.state.State.{State}
 use Rattle.hermes.specs.declared.first.state.State.TheVariants as state
-use Rattle.hermes.specs.declared.first.language.ReadFault.{ReadFault}
-use Rattle.hermes.specs.declared.first.language.ReadFault.TheVariants as fault
+use Rattle.hermes.specs.declared.first.language.FirstFault.{FirstFault}
+use Rattle.hermes.specs.declared.first.language.FirstFault.TheVariants as fault
 
 -- A sum as the list of its numbers, each with the operator in front of it. The first has a plus there.
 abbrev pub Step : Type 0
@@ -127,7 +127,7 @@ IsState at (state.Text start) = (start ≤ at) × (at ≤ start + 254)
 IsState at (state.Number before value) = IsTrue (is_number value)
 
 -- What a step over the byte b gives, at the place `at`, where `old` says what was still to come.
-abbrev pub Stepped : (List ℕ → List Argument → Type 0) → List ℕ → ℕ → ℕ → List Argument → Result State ReadFault → Type 0
+abbrev pub Stepped : (List ℕ → List Argument → Type 0) → List ℕ → ℕ → ℕ → List Argument → Result State FirstFault → Type 0
 Stepped old source at b done (Ok new) = IsState (at + 1) new × Moves old (Rest source (at + 1) new done) b
 Stepped old source at b done (Err (fault.NotYet n)) = (n ≡ at) × Halts old b
 Stepped old source at b done (Err fault.Memory) = Unit {0}
@@ -144,7 +144,7 @@ is_between (state.Token part next.Call) = length part.now == 0
 is_between other = false
 
 -- What reading a source gives: its calls, and there are no others; or the place where it stops beginning a first text.
-abbrev pub Reads : List ℕ → Result (List Argument) ReadFault → Type 0
+abbrev pub Reads : List ℕ → Result (List Argument) FirstFault → Type 0
 Reads source (Ok found) = IsFirst found source × ((calls : List Argument) → IsFirst calls source → calls ≡ found)
 Reads source (Err (fault.NotYet at)) = IsStuck source at
 Reads source (Err fault.Memory) = Unit {0}

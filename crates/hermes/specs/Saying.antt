@@ -2,7 +2,7 @@
 -- multiplied, added and subtracted from left to right, `*` first (ECMA-262, 13.7, 13.8 and 13.15.3). A sum
 -- has no value as soon as an operator's result is no safe integer. The script is left at the first call
 -- whose sum has no value.
-use Rattle.std.specs.Prelude.{ℕ, ℤ, pos, List, [], ◌∷◌, Option, Some, None, option_map, option_and_then}
+use Rattle.std.specs.Prelude.{ℕ, ℤ, pos, List, [], ◌∷◌, Option, Some, option_map, option_and_then}
 use Rattle.std.specs.Option.{option_map_or}
 use Rattle.std.specs.Fmt.{signed_decimal}
 use Rattle.hz_value.specs.declared.leaving.Left.TheVariants.{NotSafe}

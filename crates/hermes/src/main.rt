@@ -8,6 +8,7 @@ ghost use Rattle.std.specs.Prelude.{◌≡◌, ◌<◌};
 
 mod disk;
 mod first;
+mod source;
 mod status;
 mod steps;
 #[cfg(test)]

@@ -7,7 +7,7 @@ ghost use Rattle.hermes.specs.Outcomes.{OutcomeOf};
 ghost use Rattle.hermes.specs.Statuses.{line_of};
 ghost use Rattle.hermes.specs.Words.{usage_fault, file_of};
 
-use crate::first::run_source;
+use crate::source::run_source;
 use crate::status::Status;
 use crate::steps::Steps;
 use crate::words::file_name;

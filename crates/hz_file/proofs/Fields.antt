@@ -55,34 +55,35 @@ length_entries p = length_numbers 4 (entry_words 0 p.texts) ∙ ap (λ (n : ℕ)
 pub places : (p : Program) → Places p
 unfolding pieces number zeros
 places p =
-  let hash = length_sha1 p.source in
-  record {
-    count = refl;
-    edition = refl;
-    flag = refl;
-    size = refl;
-    zeros_44 = omega arith;
-    functions = omega arith;
-    texts = omega arith;
-    overflows = omega arith;
-    handlers = omega arith;
-    large = omega arith;
-    code_length = omega arith;
-    storage_length = omega arith;
-    source_length = omega arith;
-    zeros_112 = omega arith;
-    kind = omega arith;
-    registers = omega arith;
-    code_place = omega arith;
-    code_size = omega arith;
-    zero = omega arith;
-    first_handler = omega arith;
-    handler_count = omega arith;
-    entries = omega arith;
-    storage = omega (arith, length_entries p);
-    code = omega (arith, length_entries p);
-    source = omega (arith, length_entries p);
-    end = omega (arith, length_entries p) }
+    let hash = length_sha1 p.source in
+    record {
+      count = refl;
+      edition = refl;
+      flag = refl;
+      size = refl;
+      zeros_44 = omega arith;
+      functions = omega arith;
+      texts = omega arith;
+      overflows = omega arith;
+      handlers = omega arith;
+      large = omega arith;
+      code_length = omega arith;
+      storage_length = omega arith;
+      source_length = omega arith;
+      zeros_112 = omega arith;
+      kind = omega arith;
+      registers = omega arith;
+      code_place = omega arith;
+      code_size = omega arith;
+      zero = omega arith;
+      first_handler = omega arith;
+      handler_count = omega arith;
+      entries = omega arith;
+      storage = omega (arith, length_entries p);
+      code = omega (arith, length_entries p);
+      source = omega (arith, length_entries p);
+      end = omega (arith, length_entries p);
+    }
 
 -- what stands in the header, and where the sections do
 pub record Fields (p : Program) : Type 0 where
@@ -137,4 +138,5 @@ fields p small =
       kind = part_found (pieces p) 15 (128) (2) _ (omega arith) (omega arith) (unfold pieces in refl) ∙ unfold pieces in refl;
       flag = part_found (pieces p) 2 (12) (4) _ (omega arith) (omega arith) (unfold pieces in length_number 4 _) ∙ unfold pieces in refl;
       code = part_found (pieces p) 24 (144 + 4 * length p.texts + length (concat p.texts)) (length p.code) _ (omega arith) (omega arith) (unfold pieces in refl) ∙ unfold pieces in refl;
-      source = part_found (pieces p) 25 (144 + 4 * length p.texts + length (concat p.texts) + length p.code) (length p.source) _ (omega arith) (omega arith) (unfold pieces in refl) ∙ unfold pieces in refl }
+      source = part_found (pieces p) 25 (144 + 4 * length p.texts + length (concat p.texts) + length p.code) (length p.source) _ (omega arith) (omega arith) (unfold pieces in refl) ∙ unfold pieces in refl;
+    }

@@ -12,7 +12,7 @@ use Rattle.hz_file.specs.Rules.{size_rule, edition_rule, zero_rule, length_rule,
 use Rattle.hz_file.specs.Image.{Program, IsSmall, IsShortText, number, zeros, numbers, entry_words, pieces, body, image, size_of, script_module}
 use Rattle.hz_file.proofs.Pieces.{drop_found, length_sha1}
 use Rattle.hz_file.proofs.Fields.{Fields, fields, Places, places}
-use Rattle.hz_file.proofs.Storage.{entries_found, none_long, none_stray, texts_found}
+use Rattle.hz_file.proofs.Storage.{entries_found, none_long, none_faulty, texts_found}
 
 pub has_magic : (p : Program) → HasMagic (image p)
 unfolding image pieces number zeros
@@ -143,7 +143,8 @@ found p small =
       storage = storage;
       entries_are = rw (f.texts, strings) (entries_found (image p) 144 0 p.texts _ (from_entries p) small.short (omega (arith, small.storage)));
       rest = concat (drop 24 (pieces p)) ++ sha1 (body p);
-      texts_are = rw start (from_storage p) }
+      texts_are = rw start (from_storage p);
+    }
 
 entries_kept : (p : Program) → IsSmall p → entries_rule (image p) ≡ None
 entries_kept p small =
@@ -154,7 +155,7 @@ texts_kept : (p : Program) → IsSmall p → texts_rule (image p) ≡ None
 texts_kept p small =
     let s = found p small in
     let f = fields p small in
-    rw s.entries_are (none_stray (image p) _ 0 p.texts s.rest s.texts_are small.short (omega (arith, small.storage)) (omega (arith, f.storage_length)))
+    rw s.entries_are (none_faulty (image p) _ 0 p.texts s.rest s.texts_are small.short (omega (arith, small.storage)) (omega (arith, f.storage_length)))
 
 no_difference : (at : ℕ) (xs : List ℕ) → first_difference at xs xs ≡ None
 unfolding first_difference
@@ -174,7 +175,7 @@ unfolding rule
 breaks_none p small =
     rw (size_kept p small, edition_kept p small, zero_kept p small, length_kept p small, sections_kept p small, functions_kept p small, code_kept p small, entries_kept p small, texts_kept p small, footer_kept p small) refl
 
-flag_is : (s : Bool) → nat_eq (if s then 1 else 0) 1 ≡ s
+flag_is : (s : Bool) → nat_eq ((if s then 1 else 0) % 2) 1 ≡ s
 flag_is true = refl
 flag_is false = refl
 

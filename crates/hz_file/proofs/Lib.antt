@@ -1,3 +1,4 @@
+pub mod Body
 pub mod Fields
 pub mod Law
 pub mod Pieces

@@ -5,7 +5,7 @@ use Rattle.hz_file.specs.declared.malformed.Malformed.{Malformed}
 use Rattle.hz_file.specs.Layout.{Fills, field, function_count, string_count, strings_at, storage_length, code_length, footer_at, header_at, has_code, is_large, kind_number, code_place, code_size, entries_from, entry_place, entry_size}
 use Rattle.hz_file.specs.Module.{module_of, function_at, functions_from, text_of}
 use Rattle.hz_file.specs.Opening.{rule, fails}
-use Rattle.hz_file.specs.Rules.{size_rule, edition_rule, zero_rule, length_rule, sections_rule, functions_rule, code_rule, entries_rule, texts_rule, footer_rule, unless, first_stray, is_kept, is_header}
+use Rattle.hz_file.specs.Rules.{size_rule, edition_rule, zero_rule, length_rule, sections_rule, functions_rule, code_rule, entries_rule, texts_rule, footer_rule, unless, first_faulty_text, is_text_entry, is_header}
 use Rattle.hz_file.proofs.Walking.{entries_more, kept_fits}
 
 pub record Sound (bytes : List ℕ) : Type 0 where
@@ -36,12 +36,12 @@ cond_none : (b : Bool) (x : Option ℕ) (at : ℕ) → cond b x (Some at) ≡ No
 cond_none true x at e = (refl, e)
 cond_none false x at e = cc
 
-kept_step : (bytes : List ℕ) (at next e : ℕ) (es : List ℕ) → first_stray bytes at next (e ∷ es) ≡ None → (is_kept bytes next e ≡ true) × (first_stray bytes (at + 4) (next + entry_size e) es ≡ None)
-unfolding first_stray
-kept_step bytes at next e es none = cond_none (is_kept bytes next e) _ at none
+kept_step : (bytes : List ℕ) (at next e : ℕ) (es : List ℕ) → first_faulty_text bytes at next (e ∷ es) ≡ None → (is_text_entry bytes next e ≡ true) × (first_faulty_text bytes (at + 4) (next + entry_size e) es ≡ None)
+unfolding first_faulty_text
+kept_step bytes at next e es none = cond_none (is_text_entry bytes next e) _ at none
 
 -- each text of a walk that ends well lies in the storage
-texts_hold : (bytes : List ℕ) (n at next i : ℕ) → first_stray bytes at next (entries_from n at bytes) ≡ None → i < n → let e = field 4 bytes (at + 4 * i) in entry_place e + entry_size e ≤ storage_length bytes
+texts_hold : (bytes : List ℕ) (n at next i : ℕ) → first_faulty_text bytes at next (entries_from n at bytes) ≡ None → i < n → let e = field 4 bytes (at + 4 * i) in entry_place e + entry_size e ≤ storage_length bytes
 texts_hold bytes zero at next i none within = absurd (omega arith)
 texts_hold bytes (suc n) at next zero none within =
     let step = kept_step bytes at next (field 4 bytes at) (entries_from n (at + 4) bytes) none in
@@ -98,4 +98,5 @@ sound bytes none =
       code_there = header.0;
       script = header.1;
       code_within = code_holds bytes r8.0;
-      texts_within = λ i within. texts_hold bytes _ _ 0 i r11.0 within }
+      texts_within = λ i within. texts_hold bytes _ _ 0 i r11.0 within;
+    }

@@ -5,7 +5,7 @@ use Rattle.std.proofs.lemmas.List.{take_at, drop_at, drop-drop}
 use Rattle.std.proofs.lemmas.List.Elements.{All-head, All-tail}
 use Rattle.hz_file.specs.Layout.{field, part, entries_from, entry_is_wide, entry_place, entry_units, entry_size, text_bytes, storage_at, storage_length}
 use Rattle.hz_file.specs.Module.{text_of}
-use Rattle.hz_file.specs.Rules.{first_long, first_stray, is_kept, is_placed, is_text, is_ascii_unit, unless}
+use Rattle.hz_file.specs.Rules.{first_long_text, first_faulty_text, is_text_entry, is_placed, has_its_width, is_ascii_unit, unless}
 use Rattle.hz_file.specs.Image.{number, numbers, entry_words, IsShortText}
 use Rattle.hz_file.proofs.Pieces.{length_number}
 use Rattle.byteorder.specs.Numbers.{little_number-reads_back}
@@ -27,7 +27,8 @@ is_word at n e is near short =
       place = omega arith;
       units = units;
       size = rw wide units;
-      fits = omega arith }
+      fits = omega arith;
+    }
 
 narrow_text : (t : List ℕ) → All (λ unit. unit < 128) t → list_all is_ascii_unit t ≡ true
 narrow_text [] all = refl
@@ -49,14 +50,14 @@ text_here bytes place e t rest is here = rw (is.place, is.size, here) (take_at t
 both : (a b : Bool) → a ≡ true → b ≡ true → (a && b) ≡ true
 both a b p q = rw (p, q) refl
 
-kept_is : (bytes : List ℕ) (place e : ℕ) (t rest : List ℕ) → IsWord place (length t) e → drop (storage_at bytes + place) bytes ≡ t ++ rest → All (λ unit. unit < 128) t → place + length t ≤ storage_length bytes → is_kept bytes place e ≡ true
+kept_is : (bytes : List ℕ) (place e : ℕ) (t rest : List ℕ) → IsWord place (length t) e → drop (storage_at bytes + place) bytes ≡ t ++ rest → All (λ unit. unit < 128) t → place + length t ≤ storage_length bytes → is_text_entry bytes place e ≡ true
 kept_is bytes place e t rest is here narrow fits =
     let at : entry_place e ≡ place = is.place in
     let size : entry_size e ≡ length t = is.size in
     let same : nat_eq place place ≡ true = grind arith in
     let within : nat_le (place + length t) (storage_length bytes) ≡ true = grind (arith, fits) in
     let placed : is_placed bytes place e ≡ true = rw (at, size) (both _ _ same within) in
-    let text : is_text (entry_is_wide e) (text_bytes bytes e) ≡ true = rw (text_here bytes place e t rest is here, is.wide) (narrow_text t narrow) in
+    let text : has_its_width (entry_is_wide e) (text_bytes bytes e) ≡ true = rw (text_here bytes place e t rest is here, is.wide) (narrow_text t narrow) in
     both (is_placed bytes place e) _ placed text
 
 -- what the first of some texts says, and what is left for the others
@@ -76,7 +77,8 @@ first place t ts short total =
       narrow = text.1;
       others = All-tail IsShortText t ts short;
       sum = sum;
-      total = omega arith }
+      total = omega arith;
+    }
 
 -- the words are read back as entries
 pub entries_found : (bytes : List ℕ) (at place : ℕ) (texts : List (List ℕ)) (rest : List ℕ) → drop at bytes ≡ numbers 4 (entry_words place texts) ++ rest → All IsShortText texts → place + length (concat texts) ≤ 8388607 → entries_from (length texts) at bytes ≡ entry_words place texts
@@ -91,8 +93,8 @@ entries_found bytes at place (t ∷ ts) rest here short total =
     let again = entries_found bytes (at + 4) (place + length t) ts rest behind f.others f.total in
     rw (is, again) refl
 
-pub none_long : (at place : ℕ) (texts : List (List ℕ)) → All IsShortText texts → place + length (concat texts) ≤ 8388607 → first_long at (entry_words place texts) ≡ None
-unfolding first_long
+pub none_long : (at place : ℕ) (texts : List (List ℕ)) → All IsShortText texts → place + length (concat texts) ≤ 8388607 → first_long_text at (entry_words place texts) ≡ None
+unfolding first_long_text
 none_long at place [] short total = refl
 none_long at place (t ∷ ts) short total =
     let f = first place t ts short total in
@@ -101,18 +103,18 @@ none_long at place (t ∷ ts) short total =
     let few : nat_lt (entry_units (2 * place + 16777216 * length t)) 255 ≡ true = rw units (grind (arith, text.0)) in
     rw few (none_long (at + 4) (place + length t) ts f.others f.total)
 
-pub none_stray : (bytes : List ℕ) (at place : ℕ) (texts : List (List ℕ)) (rest : List ℕ) → drop (storage_at bytes + place) bytes ≡ concat texts ++ rest → All IsShortText texts → place + length (concat texts) ≤ 8388607 → storage_length bytes ≡ place + length (concat texts) → first_stray bytes at place (entry_words place texts) ≡ None
-unfolding first_stray
-none_stray bytes at place [] rest here short total all =
+pub none_faulty : (bytes : List ℕ) (at place : ℕ) (texts : List (List ℕ)) (rest : List ℕ) → drop (storage_at bytes + place) bytes ≡ concat texts ++ rest → All IsShortText texts → place + length (concat texts) ≤ 8388607 → storage_length bytes ≡ place + length (concat texts) → first_faulty_text bytes at place (entry_words place texts) ≡ None
+unfolding first_faulty_text
+none_faulty bytes at place [] rest here short total all =
     let full : nat_eq place (storage_length bytes) ≡ true = grind (arith, all) in
     rw full refl
-none_stray bytes at place (t ∷ ts) rest here short total all =
+none_faulty bytes at place (t ∷ ts) rest here short total all =
     let f = first place t ts short total in
     let split : drop (storage_at bytes + place) bytes ≡ t ++ (concat ts ++ rest) = here ∙ append_assoc t (concat ts) rest in
     let kept = kept_is bytes place _ t (concat ts ++ rest) f.is split f.narrow (omega (arith, f.sum)) in
     let same : storage_at bytes + (place + length t) ≡ storage_at bytes + place + length t = omega arith in
     let behind : drop (storage_at bytes + (place + length t)) bytes ≡ concat ts ++ rest = rw same (drop_behind _ (length t) bytes t (concat ts ++ rest) split refl) in
-    let again = none_stray bytes (at + 4) (place + length t) ts rest behind f.others f.total (omega (arith, f.sum)) in
+    let again = none_faulty bytes (at + 4) (place + length t) ts rest behind f.others f.total (omega (arith, f.sum)) in
     rw (kept, f.is.size) again
 
 pub texts_found : (bytes : List ℕ) (place : ℕ) (texts : List (List ℕ)) (rest : List ℕ) → drop (storage_at bytes + place) bytes ≡ concat texts ++ rest → All IsShortText texts → place + length (concat texts) ≤ 8388607 → map (text_of bytes) (entry_words place texts) ≡ texts

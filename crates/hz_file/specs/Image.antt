@@ -15,6 +15,10 @@ pub record Program : Type 0 where
   pub registers : ℕ
   pub code : List ℕ
 
+abbrev pub program : Bool → List ℕ → List (List ℕ) → ℕ → List ℕ → Program
+program strict source texts registers code =
+    record { strict = strict; source = source; texts = texts; registers = registers; code = code }
+
 -- a text that a small file can hold: at most 254 units, all below 128
 abbrev pub IsShortText : List ℕ → Type 0
 IsShortText text = (length text ≤ 254) × All (λ unit. unit < 128) text
@@ -70,7 +74,8 @@ script_module p = record {
   strict = p.strict;
   source = p.source;
   functions = record { kind = Script; length = 0; registers = p.registers; code = Some p.code } ∷ [];
-  texts = p.texts }
+  texts = p.texts;
+}
 
 -- what a small file can hold
 pub record IsSmall (p : Program) : Type 0 where

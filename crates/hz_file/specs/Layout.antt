@@ -22,7 +22,7 @@ abbrev pub edition : List ℕ → ℕ
 edition bytes = field 4 bytes 8
 
 abbrev pub strict_flag : List ℕ → Bool
-strict_flag bytes = nat_eq (slice_index bytes 12) 1
+strict_flag bytes = nat_eq (slice_index bytes 12 % 2) 1
 
 abbrev pub file_length : List ℕ → ℕ
 file_length bytes = field 8 bytes 16
@@ -129,6 +129,9 @@ entries_from (suc n) at bytes = field 4 bytes at ∷ entries_from n (at + 4) byt
 
 abbrev pub entries : List ℕ → List ℕ
 entries bytes = entries_from (string_count bytes) (strings_at bytes) bytes
+
+abbrev pub entry_at : List ℕ → ℕ → ℕ
+entry_at bytes id = field 4 bytes (strings_at bytes + 4 * id)
 
 -- the bytes of an entry's text
 abbrev pub text_bytes : List ℕ → ℕ → List ℕ

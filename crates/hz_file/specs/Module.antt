@@ -5,7 +5,7 @@ use Rattle.hz_file.specs.declared.kind.FunctionKind.TheVariants.{Script, Functio
 use Rattle.hz_file.specs.Layout.{part, strict_flag, source_at, source_length, function_count, header_at, has_code, kind_number, register_count, code_at, code_place, code_size, entries, entry_is_wide, text_bytes, units_of}
 
 -- a function: its code is bytes, or not there in a stub
-pub record FunctionParts : Type 0 where
+pub record ModuleFunction : Type 0 where
   pub kind : FunctionKind
   pub length : ℕ
   pub registers : ℕ
@@ -15,7 +15,7 @@ pub record FunctionParts : Type 0 where
 pub record Module : Type 0 where
   pub strict : Bool
   pub source : List ℕ
-  pub functions : List FunctionParts
+  pub functions : List ModuleFunction
   pub texts : List (List ℕ)
 
 abbrev pub kind_of : ℕ → FunctionKind
@@ -27,16 +27,20 @@ kind_of n =
 abbrev pub code_bytes : List ℕ → ℕ → List ℕ
 code_bytes bytes at = part bytes (code_at bytes + code_place bytes at) (code_size bytes at)
 
-abbrev pub function_at : List ℕ → ℕ → FunctionParts
-function_at bytes at = record {
-  kind = kind_of (kind_number bytes at);
-  length = slice_index bytes (at + 1);
-  registers = register_count bytes at;
-  code = if has_code bytes at then Some (code_bytes bytes at) else None;
-}
+abbrev pub code_of : List ℕ → ℕ → Option (List ℕ)
+code_of bytes at = if has_code bytes at then Some (code_bytes bytes at) else None
+
+abbrev pub shown_function : FunctionKind → ℕ → ℕ → Option (List ℕ) → ModuleFunction
+shown_function kind length registers code =
+    record { kind = kind; length = length; registers = registers; code = code }
+
+abbrev pub function_at : List ℕ → ℕ → ModuleFunction
+function_at bytes at =
+    shown_function (kind_of (kind_number bytes at)) (slice_index bytes (at + 1)) (register_count bytes at)
+    (code_of bytes at)
 
 -- the n functions with headers from a place on
-abbrev pub functions_from : ℕ → ℕ → List ℕ → List FunctionParts
+abbrev pub functions_from : ℕ → ℕ → List ℕ → List ModuleFunction
 functions_from zero at bytes = []
 functions_from (suc n) at bytes = function_at bytes at ∷ functions_from n (at + 16) bytes
 

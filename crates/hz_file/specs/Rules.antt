@@ -61,13 +61,13 @@ code_rule bytes =
     && nat_le (code_place bytes (header_at 0) + code_size bytes (header_at 0)) (code_length bytes)) (header_at 0)
 
 -- the place of the first entry of 255 units or more, which would need an overflow entry
-unfoldable pub first_long : ℕ → List ℕ → Option ℕ
-first_long at [] = None
-first_long at (e ∷ es) = if nat_lt (entry_units e) 255 then first_long (at + 4) es else Some at
+unfoldable pub first_long_text : ℕ → List ℕ → Option ℕ
+first_long_text at [] = None
+first_long_text at (e ∷ es) = if nat_lt (entry_units e) 255 then first_long_text (at + 4) es else Some at
 
 -- V10: each string entry keeps its rules
 abbrev pub entries_rule : List ℕ → Option ℕ
-entries_rule bytes = first_long (strings_at bytes) (entries bytes)
+entries_rule bytes = first_long_text (strings_at bytes) (entries bytes)
 
 -- a unit below 128, and one that is not
 abbrev pub is_ascii_unit : ℕ → Bool
@@ -77,27 +77,27 @@ abbrev pub is_past_ascii : ℕ → Bool
 is_past_ascii unit = nat_le 128 unit
 
 -- a text is wide exactly where it has a unit of 128 or more
-abbrev pub is_text : Bool → List ℕ → Bool
-is_text wide bytes = if wide then list_any is_past_ascii (wide_units bytes) else list_all is_ascii_unit bytes
+abbrev pub has_its_width : Bool → List ℕ → Bool
+has_its_width wide bytes = if wide then list_any is_past_ascii (wide_units bytes) else list_all is_ascii_unit bytes
 
 -- the text of an entry begins where the one before it ends, and lies in the storage
 abbrev pub is_placed : List ℕ → ℕ → ℕ → Bool
 is_placed bytes next e = nat_eq (entry_place e) next && nat_le (next + entry_size e) (storage_length bytes)
 
-abbrev pub is_kept : List ℕ → ℕ → ℕ → Bool
-is_kept bytes next e = is_placed bytes next e && is_text (entry_is_wide e) (text_bytes bytes e)
+abbrev pub is_text_entry : List ℕ → ℕ → ℕ → Bool
+is_text_entry bytes next e = is_placed bytes next e && has_its_width (entry_is_wide e) (text_bytes bytes e)
 
 -- the place of the first entry that breaks the order or whose text is of the other width; at the end
 -- the storage's start, unless the texts fill it
-unfoldable pub first_stray : List ℕ → ℕ → ℕ → List ℕ → Option ℕ
-first_stray bytes at next [] = unless (nat_eq next (storage_length bytes)) (storage_at bytes)
-first_stray bytes at next (e ∷ es) =
-    if is_kept bytes next e
-    then first_stray bytes (at + 4) (next + entry_size e) es else Some at
+unfoldable pub first_faulty_text : List ℕ → ℕ → ℕ → List ℕ → Option ℕ
+first_faulty_text bytes at next [] = unless (nat_eq next (storage_length bytes)) (storage_at bytes)
+first_faulty_text bytes at next (e ∷ es) =
+    if is_text_entry bytes next e
+    then first_faulty_text bytes (at + 4) (next + entry_size e) es else Some at
 
 -- V11: the texts fill the storage in the order of their ids without gaps
 abbrev pub texts_rule : List ℕ → Option ℕ
-texts_rule bytes = first_stray bytes (strings_at bytes) 0 (entries bytes)
+texts_rule bytes = first_faulty_text bytes (strings_at bytes) 0 (entries bytes)
 
 -- the place of the first byte that differs, of bytes that stand at a place
 unfoldable pub first_difference : ℕ → List ℕ → List ℕ → Option ℕ

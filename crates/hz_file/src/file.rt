@@ -1,17 +1,18 @@
 //! A file that breaks no rule, and what it holds.
 
-ghost use Rattle.std.specs.Prelude.{◌≡◌, ◌↔◌, ◌<◌, ◌≤◌, ◌+◌, ◌*◌, if◌then◌else◌, IsTrue, Some, None, length, map, slice_get, option_map, IfSome, MatchResult, MatchOption, Ok, Err};
-ghost use Rattle.hz_file.specs.Layout.{HasMagic, Fills, field, part, function_count, strings_at, source_at, source_length, code_at, code_place, code_size, code_length, has_code, header_at};
-ghost use Rattle.hz_file.specs.Module.{module_of, code_bytes, text_of};
-ghost use Rattle.hz_file.specs.Opening.{rule, fails};
+ghost use Rattle.std.specs.Prelude.{◌≡◌, ◌↔◌, ◌<◌, ◌≤◌, ◌+◌, IsTrue, Some, None, length, slice_get, IfSome, MatchResult, MatchOption, Ok, Err};
+ghost use Rattle.std.specs.Option.{option_copied};
+ghost use Rattle.hz_file.specs.Layout.{Fills, HasMagic, code_length, code_place, code_size, entry_at, header_at, part, source_at, source_length};
+ghost use Rattle.hz_file.specs.Module.{code_bytes, code_of, module_of, shown_function, text_of};
+ghost use Rattle.hz_file.specs.Opening.{rule};
 
 use crate::function::FunctionView;
 use crate::kind::FunctionKind;
 use crate::malformed::Malformed;
 use crate::numbers::{part, u16_at, u32_at, u64_at};
-use crate::rules;
-use crate::sections::{self, Entry, FIRST_HEADER};
+use crate::sections::{self, Entry};
 use crate::string::StringView;
+use crate::{layout, rules};
 use std::marker::Model;
 
 /// The eight bytes in front of every file.
@@ -25,7 +26,7 @@ pub fn has_magic(bytes: &[u8]) -> bool
 }
 
 /// A bytecode file that breaks no rule. Contracts see its bytes; `module_of` says what they hold.
-#[derive(Clone, Drop)]
+#[derive(Clone, Debug, Drop)]
 pub struct File<'a> {
     bytes: &'a [u8],
 }
@@ -52,12 +53,13 @@ fn check(rule: u8, fault: Option<usize>) -> Result<(), Malformed>
 }
 
 impl<'a> File<'a> {
-    /// Opens a file, whose eight first bytes are the magic: `Malformed` is the first rule that fails,
-    /// with its place.
+    /// Opens a file; the magic stands in front (`has_magic` tells). `Malformed` is the first rule that
+    /// fails, with its place. No memory is taken.
     #[tactic(auto, unfolding(crate::specs::Opening::rule))]
     pub fn open(bytes: &'a [u8]) -> Result<File<'a>, Malformed>
         requires { HasMagic bytes.now }
-        ensures { MatchResult result (λ file. (rule bytes.entry.now ≡ None) × (file ≡ bytes.entry.now)) (λ fault. rule bytes.entry.now ≡ Some fault) }
+        ensures { MatchResult result (λ file. (rule bytes.entry.now ≡ None) × (file ≡ bytes.entry.now))
+            (λ fault. rule bytes.entry.now ≡ Some fault) }
     {
         check(1, rules::size_fault(bytes))?;
         check(2, rules::edition_fault(bytes))?;
@@ -78,7 +80,7 @@ fn code(bytes: &[u8], at: usize) -> Option<&[u8]>
     requires fills { Fills bytes.now }
     requires header { at + 16 ≤ length bytes.now }
     requires within { code_place bytes.now at + code_size bytes.now at ≤ code_length bytes.now }
-    ensures { option_map (λ code. code.now) result ≡ (if has_code bytes.now at then Some (code_bytes bytes.now at) else None) }
+    ensures { option_copied result ≡ code_of bytes.now at }
 {
     if bytes[at] % 2 != 1 {
         return None;
@@ -87,49 +89,56 @@ fn code(bytes: &[u8], at: usize) -> Option<&[u8]>
     Some(part(bytes, place, u16_at(bytes, at + 8) as usize))
 }
 
-/// What the file holds. No call takes memory or copies.
+/// What the file holds. No call takes memory, and none copies bytes.
 #[tactic(auto, using(crate::proofs::Sound::sound), unfolding(crate::specs::Module::module_of))]
 impl<'a> File<'a> {
-    /// The number of functions.
+    /// The number of functions, of which function 0 is the script.
     #[tactic(auto, using(crate::proofs::Sound::sound, crate::proofs::Shown::function_count_is))]
     pub fn count(&self) -> u32
         ensures shown { result ≡ length (module_of self.now).functions }
-        ensures field { result ≡ function_count self.now }
+        ensures some { 0 < result }
     {
-        u64_at(self.bytes, 48) as u32
+        u64_at(self.bytes, layout::FUNCTION_COUNT) as u32
     }
 
-    /// Whether the source was read as strict code by a flag.
+    /// Whether the flag was set by which the source is read as strict code.
     pub fn strict(&self) -> bool
         ensures { result ≡ (module_of self.now).strict }
     {
-        self.bytes[12] == 1
+        self.bytes[layout::FLAGS] % 2 == 1
     }
 
-    /// The place in the file at which the source starts.
+    /// The place in the file, in bytes, at which the source starts.
     pub fn source_at(&self) -> usize
         ensures { result ≡ source_at self.now }
     {
         sections::source_at(self.bytes)
     }
 
-    /// The source.
+    /// The bytes of the source.
     pub fn source(&self) -> &'a [u8]
         ensures shown { result.now ≡ (module_of self.now).source }
         ensures slice { result.now ≡ part self.now (source_at self.now) (source_length self.now) }
     {
-        part(self.bytes, self.source_at(), u64_at(self.bytes, 104) as usize)
+        part(
+            self.bytes,
+            self.source_at(),
+            u64_at(self.bytes, layout::SOURCE_LENGTH) as usize,
+        )
     }
 
     /// The function with that number.
     #[tactic(auto, using(crate::proofs::Sound::sound, crate::proofs::Shown::function_count_is, crate::proofs::Shown::function_shown))]
     pub fn function(&self, k: u32) -> FunctionView<'a>
         requires { k < length (module_of self.now).functions }
-        ensures shown { slice_get (module_of self.now).functions k ≡ Some (record { kind = result.kind; length = result.length; registers = result.registers; code = option_map (λ code. code.now) result.code }) }
-        // The code is the bytes of the code section that the header names.
-        ensures slice { IfSome result.code (λ code. code.now ≡ code_bytes self.now (header_at k)) }
+        ensures shown { slice_get (module_of self.now).functions k
+            ≡ Some (shown_function result.kind result.length result.registers (option_copied result.code)) }
+
+        // The code is the part of the file's code section that the header names. A stub has none, but no
+        // file with a stub opens yet.
+        ensures slice { option_copied result.code ≡ Some (code_bytes self.now (header_at k)) }
     {
-        let at = FIRST_HEADER + 16 * k as usize;
+        let at = layout::FIRST_HEADER + 16 * k as usize;
         FunctionView {
             kind: FunctionKind::of_number(self.bytes[at] / 4),
             length: self.bytes[at + 1],
@@ -142,13 +151,15 @@ impl<'a> File<'a> {
     #[tactic(auto, using(crate::proofs::Sound::sound, crate::proofs::Shown::text_shown, crate::proofs::Shown::text_past))]
     pub fn string(&self, id: u64) -> Option<StringView<'a>>
         ensures shown { result ≡ slice_get (module_of self.now).texts id }
-        // Its units are read from the bytes of the string storage that the entry names.
-        ensures slice { IfSome result (λ text. text ≡ text_of self.now (field 4 self.now (strings_at self.now + 4 * id))) }
+
+        // Its units are read from the part of the file's string storage that the entry names.
+        ensures slice { IfSome result (λ text. text ≡ text_of self.now (entry_at self.now id)) }
     {
         if id >= sections::string_count(self.bytes) {
             return None;
         }
-        let entry = Entry::at(self.bytes, sections::strings_at(self.bytes) + 4 * id as usize);
+        let at = sections::strings_at(self.bytes) + 4 * id as usize;
+        let entry = Entry::at(self.bytes, at);
         let place = sections::storage_at(self.bytes) + entry.place();
         let text = part(self.bytes, place, entry.size());
         Some(StringView::of_bytes(entry.is_wide(), text))

@@ -3,17 +3,15 @@
 ghost use Rattle.std.specs.Prelude.{◌≡◌, ◌+◌, ◌≤◌, length};
 ghost use Rattle.hz_file.specs.Layout.{Fills, field, string_count, strings_at, storage_at, code_at, source_at, entry_is_wide, entry_place, entry_units, entry_size};
 
+use crate::layout;
 use crate::numbers::{u32_at, u64_at};
-
-/// The place of the first function header.
-pub(crate) const FIRST_HEADER: usize = 128;
 
 /// How many string entries there are.
 pub(crate) fn string_count(bytes: &[u8]) -> u64
     requires { 148 ≤ length bytes.now }
     ensures { result ≡ string_count bytes.now }
 {
-    u64_at(bytes, 56)
+    u64_at(bytes, layout::STRING_COUNT)
 }
 
 /// The place of the first string entry.
@@ -21,7 +19,9 @@ pub(crate) fn strings_at(bytes: &[u8]) -> usize
     requires { Fills bytes.now }
     ensures { result ≡ strings_at bytes.now }
 {
-    128 + 16 * u64_at(bytes, 48) as usize + 56 * u64_at(bytes, 80) as usize
+    layout::FIRST_HEADER
+        + 16 * u64_at(bytes, layout::FUNCTION_COUNT) as usize
+        + 56 * u64_at(bytes, layout::LARGE_COUNT) as usize
 }
 
 /// The place of the string storage.
@@ -30,8 +30,8 @@ pub(crate) fn storage_at(bytes: &[u8]) -> usize
     ensures { result ≡ storage_at bytes.now }
 {
     let overflow_at = strings_at(bytes) + 4 * string_count(bytes) as usize;
-    let handlers_at = overflow_at + 24 * u64_at(bytes, 64) as usize;
-    handlers_at + 24 * u64_at(bytes, 72) as usize
+    let handlers_at = overflow_at + 24 * u64_at(bytes, layout::OVERFLOW_COUNT) as usize;
+    handlers_at + 24 * u64_at(bytes, layout::HANDLER_COUNT) as usize
 }
 
 /// The place of the code.
@@ -39,7 +39,7 @@ pub(crate) fn code_at(bytes: &[u8]) -> usize
     requires { Fills bytes.now }
     ensures { result ≡ code_at bytes.now }
 {
-    storage_at(bytes) + u64_at(bytes, 96) as usize
+    storage_at(bytes) + u64_at(bytes, layout::STORAGE_LENGTH) as usize
 }
 
 /// The place of the source.
@@ -47,7 +47,7 @@ pub(crate) fn source_at(bytes: &[u8]) -> usize
     requires { Fills bytes.now }
     ensures { result ≡ source_at bytes.now }
 {
-    code_at(bytes) + u64_at(bytes, 88) as usize
+    code_at(bytes) + u64_at(bytes, layout::CODE_LENGTH) as usize
 }
 
 /// A string entry: where a text lies in the storage, and how long it is.

@@ -1,6 +1,7 @@
 //! The texts of a file that is to be written.
 
-ghost use Rattle.std.specs.Prelude.{◌≡◌, ◌↔◌, [], ◌∷◌, ◌++◌, length, slice_get, option_map, IsTrue, OnOk, OnErr};
+ghost use Rattle.std.specs.Prelude.{◌≡◌, ◌↔◌, [], ◌∷◌, ◌++◌, length, slice_get, IsTrue, OnOk, OnErr};
+ghost use Rattle.std.specs.Option.{option_copied};
 
 use hz_value::{Memory, Units};
 use std::alloc::Global;
@@ -55,7 +56,7 @@ impl Texts {
 
     /// The text with that id; None exactly past the last.
     pub fn at(&self, id: usize) -> Option<&Units>
-        ensures { option_map (λ text. text.now) result ≡ slice_get self.now id }
+        ensures { option_copied result ≡ slice_get self.now id }
     {
         self.items.get(id)
     }

@@ -1,63 +1,18 @@
 //! The file of one script.
 
-ghost use Rattle.std.specs.Prelude.{◌≡◌, ◌+◌, ◌*◌, ◌^◌, ◌<◌, ◌≤◌, if◌then◌else◌, [], ◌∷◌, ◌++◌, length, OnOk, IfOk, All, None};
+ghost use Rattle.std.specs.Prelude.{◌≡◌, ◌+◌, ◌*◌, ◌<◌, ◌≤◌, if◌then◌else◌, ◌++◌, length, OnOk, IfOk, All, None};
 ghost use Rattle.std.specs.List.{concat};
-ghost use Rattle.hz_file.specs.Image.{IsSmall, number, numbers, header, function_header, entry_words, image, pieces, size_of, IsShortText, script_module};
+ghost use Rattle.hz_file.specs.Image.{IsShortText, IsSmall, entry_words, function_header, header, image, number, numbers, program, script_module};
 ghost use Rattle.hz_file.specs.Layout.{HasMagic, magic};
 ghost use Rattle.hz_file.specs.Module.{module_of};
 ghost use Rattle.hz_file.specs.Opening.{rule};
 
-use byteorder::{ByteOrder, LittleEndian};
-use hz_value::{Memory, Units};
-use sha1::Sha1;
-use std::alloc::Global;
-
+use crate::appending::{put, put_numbers, put_text, put_u16, put_u32, put_u64};
 use crate::file::MAGIC;
 use crate::texts::Texts;
-
-fn put(bytes: &mut Vec<u8>, more: &[u8]) -> Result<(), Memory>
-    ensures { OnOk result (bytes.new.items ≡ bytes.old.items ++ more.now) }
-{
-    bytes.extend_from_slice(more)?;
-    Ok(())
-}
-
-#[tactic(auto, unfolding(crate::specs::Image::number))]
-fn put_u16(bytes: &mut Vec<u8>, n: u16) -> Result<(), Memory>
-    ensures { OnOk result (bytes.new.items ≡ bytes.old.items ++ number 2 n) }
-{
-    let mut number = [0; 2];
-    LittleEndian::write_u16(&mut number, n);
-    put(bytes, &number)
-}
-
-#[tactic(auto, unfolding(crate::specs::Image::number))]
-fn put_u32(bytes: &mut Vec<u8>, n: u32) -> Result<(), Memory>
-    ensures { OnOk result (bytes.new.items ≡ bytes.old.items ++ number 4 n) }
-{
-    let mut number = [0; 4];
-    LittleEndian::write_u32(&mut number, n);
-    put(bytes, &number)
-}
-
-#[tactic(auto, unfolding(crate::specs::Image::number))]
-fn put_u64(bytes: &mut Vec<u8>, n: u64) -> Result<(), Memory>
-    ensures { OnOk result (bytes.new.items ≡ bytes.old.items ++ number 8 n) }
-{
-    let mut number = [0; 8];
-    LittleEndian::write_u64(&mut number, n);
-    put(bytes, &number)
-}
-
-/// The numbers one behind the other.
-fn put_numbers(bytes: &mut Vec<u8>, list: &[u64]) -> Result<(), Memory>
-    ensures { OnOk result (bytes.new.items ≡ bytes.old.items ++ numbers 8 list.now) }
-{
-    for n in list {
-        put_u64(bytes, *n)?;
-    }
-    Ok(())
-}
+use hz_value::Memory;
+use sha1::Sha1;
+use std::alloc::Global;
 
 /// The lengths that a header names.
 #[derive(Clone, Copy)]
@@ -74,7 +29,9 @@ struct Lengths {
 
 /// What stands in the header before the hash of the source.
 fn put_front(bytes: &mut Vec<u8>, strict: bool, size: u64) -> Result<(), Memory>
-    ensures { OnOk result (bytes.new.items ≡ bytes.old.items ++ (magic ++ (number 4 1 ++ (number 4 (if strict then 1 else 0) ++ number 8 size)))) }
+    ensures { let flags = if strict then 1 else 0 in
+        let front = magic ++ (number 4 1 ++ (number 4 flags ++ number 8 size)) in
+        OnOk result (bytes.new.items ≡ bytes.old.items ++ front) }
 {
     put(bytes, &MAGIC)?;
     put_u32(bytes, 1)?;
@@ -84,14 +41,28 @@ fn put_front(bytes: &mut Vec<u8>, strict: bool, size: u64) -> Result<(), Memory>
 
 /// The header of the file.
 #[tactic(auto, unfolding(crate::specs::Image::zeros))]
-fn put_header(bytes: &mut Vec<u8>, strict: bool, source: &[u8], lengths: Lengths) -> Result<(), Memory>
-    ensures { OnOk result (bytes.new.items ≡ bytes.old.items ++ concat (header strict lengths.size source.now lengths.texts lengths.code lengths.storage)) }
+fn put_header(
+    bytes: &mut Vec<u8>,
+    strict: bool,
+    source: &[u8],
+    lengths: Lengths,
+) -> Result<(), Memory>
+    ensures { let of = header strict lengths.size source.now lengths.texts lengths.code lengths.storage in
+        OnOk result (bytes.new.items ≡ bytes.old.items ++ concat of) }
 {
     put_front(bytes, strict, lengths.size)?;
     put(bytes, &Sha1::digest(source))?;
     put(bytes, &[0; 4])?;
-    let Lengths { texts, code, storage, .. } = lengths;
-    put_numbers(bytes, &[1, texts, 0, 0, 0, code, storage, source.len() as u64])?;
+    let Lengths {
+        texts,
+        code,
+        storage,
+        ..
+    } = lengths;
+    put_numbers(
+        bytes,
+        &[1, texts, 0, 0, 0, code, storage, source.len() as u64],
+    )?;
     put(bytes, &[0; 16])
 }
 
@@ -135,17 +106,6 @@ fn put_entries(bytes: &mut Vec<u8>, texts: &Texts) -> Result<(), Memory>
     Ok(())
 }
 
-/// A text, one byte a unit.
-fn put_text(bytes: &mut Vec<u8>, text: &Units) -> Result<(), Memory>
-    requires { All (λ unit. unit < 128) text.now }
-    ensures { OnOk result (bytes.new.items ≡ bytes.old.items ++ text.now) }
-{
-    for unit in text.as_slice() {
-        bytes.push(*unit as u8)?;
-    }
-    Ok(())
-}
-
 /// The string storage.
 fn put_storage(bytes: &mut Vec<u8>, texts: &Texts) -> Result<(), Memory>
     requires { All IsShortText texts.now }
@@ -157,10 +117,18 @@ fn put_storage(bytes: &mut Vec<u8>, texts: &Texts) -> Result<(), Memory>
     Ok(())
 }
 
-/// The file's bytes.
-fn spell(alloc: Global, strict: bool, source: &[u8], texts: &Texts, registers: u16, code: &[u8]) -> Result<Vec<u8>, Memory>
-    requires { IsSmall (record { strict = strict; source = source.now; texts = texts.now; registers = registers; code = code.now }) }
-    ensures { IfOk result (λ bytes. bytes.items ≡ image (record { strict = strict; source = source.now; texts = texts.now; registers = registers; code = code.now })) }
+/// The bytes of the file.
+fn encode(
+    alloc: Global,
+    strict: bool,
+    source: &[u8],
+    texts: &Texts,
+    registers: u16,
+    code: &[u8],
+) -> Result<Vec<u8>, Memory>
+    requires { IsSmall (program strict source.now texts.now registers code.now) }
+    ensures { let written = program strict source.now texts.now registers code.now in
+        IfOk result (λ file. file.items ≡ image written) }
 {
     let storage = units_in(texts);
     let size = 164 + 4 * texts.len() + storage + code.len() + source.len();
@@ -182,8 +150,18 @@ fn spell(alloc: Global, strict: bool, source: &[u8], texts: &Texts, registers: u
     Ok(bytes)
 }
 
-/// The file of one script, with this flag, source, texts by id, number of registers and code.
-pub fn write_small(alloc: Global, strict: bool, source: &[u8], texts: &Texts, registers: u16, code: &[u8]) -> Result<Vec<u8>, Memory>
+/// The file of a script that is its only function: with this flag, this source, these texts by their
+/// ids, and for the script, of length 0, this number of registers and this code, without handlers. The
+/// source is ASCII; each text has at most 254 units, all below 128. `Memory` comes where memory runs
+/// out.
+pub fn write_small(
+    alloc: Global,
+    strict: bool,
+    source: &[u8],
+    texts: &Texts,
+    registers: u16,
+    code: &[u8],
+) -> Result<Vec<u8>, Memory>
     requires ascii { All (λ byte. byte < 128) source.now }
     requires source { length source.now ≤ 4095 }
     requires texts { length texts.now ≤ 65536 }
@@ -191,10 +169,14 @@ pub fn write_small(alloc: Global, strict: bool, source: &[u8], texts: &Texts, re
     requires storage { length (concat texts.now) ≤ 8388607 }
     requires code { 1 ≤ length code.now }
     requires code_fits { length code.now ≤ 65535 }
-    ensures bytes { IfOk result (λ bytes. bytes.items ≡ image (record { strict = strict; source = source.now; texts = texts.now; registers = registers; code = code.now })) }
-    ensures magic { IfOk result (λ bytes. HasMagic bytes.items) }
-    ensures opens { IfOk result (λ bytes. rule bytes.items ≡ None) }
-    ensures holds { IfOk result (λ bytes. module_of bytes.items ≡ script_module (record { strict = strict; source = source.now; texts = texts.now; registers = registers; code = code.now })) }
+    ensures bytes { let written = program strict source.now texts.now registers code.now in
+        IfOk result (λ file. file.items ≡ image written) }
+
+    // `File::open` opens it, and what it then shows is what was written.
+    ensures magic { IfOk result (λ file. HasMagic file.items) }
+    ensures opens { IfOk result (λ file. rule file.items ≡ None) }
+    ensures holds { let written = program strict source.now texts.now registers code.now in
+        IfOk result (λ file. module_of file.items ≡ script_module written) }
 {
-    spell(alloc, strict, source, texts, registers, code)
+    encode(alloc, strict, source, texts, registers, code)
 }

@@ -3,7 +3,7 @@ use Rattle.std.proofs.Common.{◌≡◌, ℕ, [], ◌∷◌, codes, refl, Some, 
 use Rattle.std.specs.Fmt.{digits}
 use Rattle.hz_value.specs.declared.leaving.Left.TheVariants.{NotSafe}
 use Rattle.hermes.specs.FirstTexts.{directive, first_tokens}
-use Rattle.hermes.specs.Meaning.{lines_of, left_of}
+use Rattle.hermes.specs.Saying.{lines_of, end_of}
 use Rattle.hermes.specs.declared.first.language.Sign.TheVariants.{Plus, Minus}
 use Rattle.hermes.specs.declared.first.language.Term.{Term}
 use Rattle.hermes.specs.declared.first.language.Argument.{Argument}
@@ -36,7 +36,7 @@ two_lines : lines_of (argument.Text (codes "a b") ∷ minus_four ∷ []) ≡ cod
 unfolding digits
 two_lines = refl
 
-two_lines_are_done : left_of (argument.Text (codes "a b") ∷ minus_four ∷ []) ≡ None
+two_lines_are_done : end_of (argument.Text (codes "a b") ∷ minus_four ∷ []) ≡ Done
 two_lines_are_done = refl
 
 -- What was printed stays printed, and nothing comes behind the call that is left.
@@ -44,7 +44,7 @@ left_behind_a_line : lines_of (seven ∷ too_large ∷ seven ∷ []) ≡ codes "
 unfolding digits
 left_behind_a_line = refl
 
-too_large_is_left : left_of (seven ∷ too_large ∷ seven ∷ []) ≡ Some NotSafe
+too_large_is_left : end_of (seven ∷ too_large ∷ seven ∷ []) ≡ LeftFor NotSafe
 too_large_is_left = refl
 
 nothing_is_said : lines_of [] ≡ []

@@ -15,8 +15,8 @@ use Rattle.hermes.proofs.reading.Weights.{weighs}
 use Rattle.hermes.specs.declared.first.language.Sum.{Sum}
 use Rattle.hermes.specs.declared.first.language.Argument.{Argument}
 use Rattle.hermes.specs.declared.first.language.Argument.TheVariants as argument
-use Rattle.hermes.specs.declared.first.language.ReadFault.{ReadFault}
-use Rattle.hermes.specs.declared.first.language.ReadFault.TheVariants as fault
+use Rattle.hermes.specs.declared.first.language.FirstFault.{FirstFault}
+use Rattle.hermes.specs.declared.first.language.FirstFault.TheVariants as fault
 use Rattle.hermes.specs.declared.first.state.Operator.{Operator}
 use Rattle.hermes.specs.declared.first.state.Next.{Next}
 use Rattle.hermes.specs.declared.first.state.Next.TheVariants as next
@@ -238,23 +238,23 @@ between source n (state.Token part (next.Number s op)) done size h read = cc
 between source n (state.Text start) done size h read = cc
 between source n (state.Number before value) done size h read = cc
 
-pub failed : (source : List ℕ) (at : ℕ) (now : State) (done new : List Argument) (why : ReadFault) → at < length source → IsRead source at now done →
+pub failed : (source : List ℕ) (at : ℕ) (now : State) (done new : List Argument) (why : FirstFault) → at < length source → IsRead source at now done →
     Stepped (Rest source at now done) source at (slice_index source at) new (Err why) → Reads source (Err why)
 failed source at now done new (fault.NotYet n) high read x = subst (IsStuck source) (sym x.0) (halted source at now done high read x.1)
 failed source at now done new fault.Memory high read x = tt
 
 -- What reading gives is settled by the source.
-pub found_of : (source : List ℕ) (result : Result (List Argument) ReadFault) → Reads source result → IfOk result (λ calls. IsFirst calls source)
+pub found_of : (source : List ℕ) (result : Result (List Argument) FirstFault) → Reads source result → IfOk result (λ calls. IsFirst calls source)
 found_of source (Ok calls) x = x.0
 found_of source (Err why) x = tt
 
-pub only_of : (source : List ℕ) (result : Result (List Argument) ReadFault) (calls : List Argument) → Reads source result → IsFirst calls source → (result ≡ Ok calls) ⊎ (result ≡ Err fault.Memory)
+pub only_of : (source : List ℕ) (result : Result (List Argument) FirstFault) (calls : List Argument) → Reads source result → IsFirst calls source → (result ≡ Ok calls) ⊎ (result ≡ Err fault.Memory)
 only_of source (Ok found) calls x f = inl (ap (λ (y : List Argument). Ok y) (sym (x.1 calls f)))
 only_of source (Err (fault.NotYet at)) calls x f = absurd (x.none calls f)
 only_of source (Err fault.Memory) calls x f = inr refl
 
-pub stuck_of : (source : List ℕ) (result : Result (List Argument) ReadFault) (at : ℕ) → Reads source result → result ≡ Err (fault.NotYet at) → IsStuck source at
-stuck_of source result at x e = let P : Result (List Argument) ReadFault → Type 0 = Reads source in subst P e x
+pub stuck_of : (source : List ℕ) (result : Result (List Argument) FirstFault) (at : ℕ) → Reads source result → result ≡ Err (fault.NotYet at) → IsStuck source at
+stuck_of source result at x e = let P : Result (List Argument) FirstFault → Type 0 = Reads source in subst P e x
 
 one_place : (source : List ℕ) (m n : ℕ) → IsStuck source m → IsStuck source n → m < n → ⊥
 one_place source m n x y less = x.longest n less y.within y.begins
@@ -265,11 +265,11 @@ same_place source m n x y =
     let below : n < m → ⊥ = one_place source n m y x in
     grind (arith, above, below)
 
-pub place_of : (source : List ℕ) (result : Result (List Argument) ReadFault) (at : ℕ) → Reads source result → IsStuck source at → (result ≡ Err (fault.NotYet at)) ⊎ (result ≡ Err fault.Memory)
+pub place_of : (source : List ℕ) (result : Result (List Argument) FirstFault) (at : ℕ) → Reads source result → IsStuck source at → (result ≡ Err (fault.NotYet at)) ⊎ (result ≡ Err fault.Memory)
 place_of source (Ok found) at x y = absurd (y.none found x.0)
 place_of source (Err (fault.NotYet n)) at x y = inl (ap (λ (m : ℕ). Err (fault.NotYet m)) (same_place source n at x y))
 place_of source (Err fault.Memory) at x y = inr refl
 
-pub weight_of_read : (source : List ℕ) (result : Result (List Argument) ReadFault) → Reads source result → IfOk result (λ calls. weight calls + 13 ≤ length source)
+pub weight_of_read : (source : List ℕ) (result : Result (List Argument) FirstFault) → Reads source result → IfOk result (λ calls. weight calls + 13 ≤ length source)
 weight_of_read source (Ok calls) x = weighs calls source x.0
 weight_of_read source (Err why) x = tt

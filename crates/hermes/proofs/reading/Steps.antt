@@ -9,8 +9,8 @@ use Rattle.hermes.proofs.reading.Digits.{digit_moves, zero_halts, large_halts, t
 use Rattle.hermes.specs.declared.first.language.Sum.{Sum}
 use Rattle.hermes.specs.declared.first.language.Argument.{Argument}
 use Rattle.hermes.specs.declared.first.language.Argument.TheVariants as argument
-use Rattle.hermes.specs.declared.first.language.ReadFault.{ReadFault}
-use Rattle.hermes.specs.declared.first.language.ReadFault.TheVariants as fault
+use Rattle.hermes.specs.declared.first.language.FirstFault.{FirstFault}
+use Rattle.hermes.specs.declared.first.language.FirstFault.TheVariants as fault
 use Rattle.hermes.specs.declared.first.state.Operator.{Operator}
 use Rattle.hermes.specs.declared.first.state.Next.{Next}
 use Rattle.hermes.specs.declared.first.state.Next.TheVariants as next
@@ -26,7 +26,7 @@ chosen : (old : Left) (source : List ℕ) (at b : ℕ) (done : List Argument) (n
 chosen old source at b done new true moves halts = moves refl
 chosen old source at b done new false moves halts = (refl, halts refl)
 
-pub advance_step : (old : Left) (source : List ℕ) (at b x : ℕ) (done : List Argument) (new : State) (result : Result State ReadFault) →
+pub advance_step : (old : Left) (source : List ℕ) (at b x : ℕ) (done : List Argument) (new : State) (result : Result State FirstFault) →
     result ≡ (if b == x then Ok new else Err (fault.NotYet at)) → IsState (at + 1) new → Moves old (Rest source (at + 1) new done) x → (b ≢ x → Halts old b) →
     Stepped old source at b done result
 advance_step old source at b x done new result e valid moves halts =
@@ -130,7 +130,7 @@ digit_longer before value d done h small some fits =
           (digit_moves before value done (48 + d) h (digit_in (48 + d) d small refl) positive (omega arith)),
     )
 
-pub text_step_at : (source : List ℕ) (start at : ℕ) (done : List Argument) (good : Bool) (result : Result State ReadFault) → start ≤ at → at < start + 254 → at < length source →
+pub text_step_at : (source : List ℕ) (start at : ℕ) (done : List Argument) (good : Bool) (result : Result State FirstFault) → start ≤ at → at < start + 254 → at < length source →
     slice_index source at ≢ 34 → good ≡ is_text_byte (slice_index source at) → result ≡ (if good then Ok (state.Text start) else Err (fault.NotYet at)) →
     Stepped (RestText (slice_range source start at) done) source at (slice_index source at) done result
 text_step_at source start at done good result low short high other tells e =
@@ -139,27 +139,27 @@ text_step_at source start at done good result low short high other tells e =
     (λ yes. ((omega arith, omega arith), text_goes_on source start at done low high other (sym tells ∙ yes)))
     (λ no. text_stops source start at done low high other (inr (sym tells ∙ no))))
 
-pub at_next : (source : List ℕ) (at b : ℕ) (done new : List Argument) (after other : Next) (result : Result State ReadFault) → after ≡ other →
+pub at_next : (source : List ℕ) (at b : ℕ) (done new : List Argument) (after other : Next) (result : Result State FirstFault) → after ≡ other →
     Stepped (RestToken [] other done) source at b new result → Stepped (RestToken [] after done) source at b new result
 at_next source at b done new after other result e = subst (λ (k : Next). Stepped (RestToken [] k done) source at b new result) (sym e)
 
-pub at_digit : (old : Left) (source : List ℕ) (at b d : ℕ) (done : List Argument) (result : Result State ReadFault) → b ≡ 48 + d →
+pub at_digit : (old : Left) (source : List ℕ) (at b d : ℕ) (done : List Argument) (result : Result State FirstFault) → b ≡ 48 + d →
     Stepped old source at (48 + d) done result → Stepped old source at b done result
 at_digit old source at b d done result e = subst (λ (y : ℕ). Stepped old source at y done result) (sym e)
 
 -- What is left may be said in another way.
-pub step_from : (old other : Left) (source : List ℕ) (at b : ℕ) (done : List Argument) (result : Result State ReadFault) →
+pub step_from : (old other : Left) (source : List ℕ) (at b : ℕ) (done : List Argument) (result : Result State FirstFault) →
     ((r : List ℕ) (calls : List Argument) → old (b ∷ r) calls → other (b ∷ r) calls) → ((r : List ℕ) (calls : List Argument) → other (b ∷ r) calls → old (b ∷ r) calls) →
     Stepped other source at b done result → Stepped old source at b done result
 step_from old other source at b done (Ok new) to from x = (x.0, record { on = λ r calls y. x.1.on r calls (to r calls y); back = λ r calls y. from r calls (x.1.back r calls y) })
 step_from old other source at b done (Err (fault.NotYet n)) to from x = (x.0, λ r calls y. x.1 r calls (to r calls y))
 step_from old other source at b done (Err fault.Memory) to from x = tt
 
-pub at_state : (source : List ℕ) (at b : ℕ) (done new : List Argument) (now other : State) (result : Result State ReadFault) → now ≡ other →
+pub at_state : (source : List ℕ) (at b : ℕ) (done new : List Argument) (now other : State) (result : Result State FirstFault) → now ≡ other →
     Stepped (Rest source at other done) source at b new result → Stepped (Rest source at now done) source at b new result
 at_state source at b done new now other result e = subst (λ (s : State). Stepped (Rest source at s done) source at b new result) (sym e)
 
-pub at_part : (source : List ℕ) (at b : ℕ) (done new : List Argument) (part : List ℕ) (after : Next) (result : Result State ReadFault) → length part < 1 →
+pub at_part : (source : List ℕ) (at b : ℕ) (done new : List Argument) (part : List ℕ) (after : Next) (result : Result State FirstFault) → length part < 1 →
     Stepped (RestToken [] after done) source at b new result → Stepped (RestToken part after done) source at b new result
 at_part source at b done new part after result short =
     subst (λ (p : List ℕ). Stepped (RestToken p after done) source at b new result) (sym (nil_from_length part (omega arith)))

@@ -2,6 +2,7 @@
 
 ghost use Rattle.std.specs.Prelude.{◌≡◌, ◌++◌, [], ◌∷◌, OnOk, OnErr, IfNone, option_to_list};
 
+use hz_value::Memory;
 use std::alloc::{AllocFailed, Global};
 use std::marker::Model;
 
@@ -121,19 +122,29 @@ pub type Calls<'a> = Series<Argument<'a>>;
 
 /// Why no first text was read.
 #[derive(Clone, Copy, Debug, PartialEq, Eq)]
-pub enum ReadFault {
+pub enum FirstFault {
     /// The bytes are none. This is the length of their longest prefix that begins one.
     NotYet(usize),
     /// Memory ran out.
     Memory,
 }
 
-impl<T: Drop> From<AllocFailed<T>> for ReadFault {
-    ghost use Rattle.hermes.specs.declared.first.language.ReadFault.TheVariants.{Memory};
+impl From<Memory> for FirstFault {
+    ghost use Rattle.hermes.specs.declared.first.language.FirstFault.TheVariants as fault;
+
+    ghost from_gives = { λ _ f. f ≡ fault.Memory };
+
+    fn from(_memory: Memory) -> FirstFault {
+        FirstFault::Memory
+    }
+}
+
+impl<T: Drop> From<AllocFailed<T>> for FirstFault {
+    ghost use Rattle.hermes.specs.declared.first.language.FirstFault.TheVariants.{Memory};
 
     ghost from_gives = { λ _ fault. fault ≡ Memory };
 
-    fn from(_failed: AllocFailed<T>) -> ReadFault {
-        ReadFault::Memory
+    fn from(_failed: AllocFailed<T>) -> FirstFault {
+        FirstFault::Memory
     }
 }

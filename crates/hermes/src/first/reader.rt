@@ -5,7 +5,7 @@ ghost use Rattle.hermes.specs.declared.first.language.Argument.{Argument};
 ghost use Rattle.hermes.specs.FirstTexts.{IsFirst, IsStuck, weight};
 ghost use Rattle.hermes.specs.Reading.{is_between, Reads};
 
-use crate::first::language::{Calls, ReadFault, Series};
+use crate::first::language::{Calls, FirstFault, Series};
 use crate::first::state::{Next, State};
 use crate::first::steps::step;
 use std::alloc::Global;
@@ -22,7 +22,7 @@ fn is_between_calls(state: &State) -> bool
     }
 }
 
-fn read<'a>(alloc: Global, source: &'a [u8]) -> Result<Calls<'a>, ReadFault>
+fn read<'a>(alloc: Global, source: &'a [u8]) -> Result<Calls<'a>, FirstFault>
     ensures { Reads source.entry.now result }
 {
     let mut calls = Series::new(alloc);
@@ -33,7 +33,7 @@ fn read<'a>(alloc: Global, source: &'a [u8]) -> Result<Calls<'a>, ReadFault>
     if is_between_calls(&state) {
         Ok(calls)
     } else {
-        Err(ReadFault::NotYet(source.len()))
+        Err(FirstFault::NotYet(source.len()))
     }
 }
 
@@ -42,14 +42,14 @@ fn read<'a>(alloc: Global, source: &'a [u8]) -> Result<Calls<'a>, ReadFault>
 ///
 /// `NotYet(at)` comes exactly where the source is no first text: `at`, in bytes, is the length of its longest
 /// prefix that begins one. `Memory` may come at any source.
-pub fn read_first(alloc: Global, source: &[u8]) -> Result<Calls<'_>, ReadFault>
+pub fn read_first(alloc: Global, source: &[u8]) -> Result<Calls<'_>, FirstFault>
     // The whole source spells the calls that are read.
     ensures found { IfOk result (λ calls. IsFirst calls source.now) }
 
     // A source that spells calls gives these calls: it spells no others.
-    ensures only { (calls : List Argument) → IsFirst calls source.now → (result ≡ Ok calls) ⊎ (result ≡ Err ReadFault.Memory) }
-    ensures stuck { (at : ℕ) → result ≡ Err (ReadFault.NotYet at) → IsStuck source.now at }
-    ensures place { (at : ℕ) → IsStuck source.now at → (result ≡ Err (ReadFault.NotYet at)) ⊎ (result ≡ Err ReadFault.Memory) }
+    ensures only { (calls : List Argument) → IsFirst calls source.now → (result ≡ Ok calls) ⊎ (result ≡ Err FirstFault.Memory) }
+    ensures stuck { (at : ℕ) → result ≡ Err (FirstFault.NotYet at) → IsStuck source.now at }
+    ensures place { (at : ℕ) → IsStuck source.now at → (result ≡ Err (FirstFault.NotYet at)) ⊎ (result ≡ Err FirstFault.Memory) }
 
     // Calls weigh no more than the source has bytes.
     ensures weight { IfOk result (λ calls. weight calls + 13 ≤ length source.now) }

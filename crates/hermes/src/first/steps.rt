@@ -7,7 +7,7 @@ ghost use Rattle.hermes.specs.declared.first.state.Operator.{Operator};
 ghost use Rattle.hermes.specs.FirstTexts.{is_blank, is_number, is_text_byte};
 ghost use Rattle.hermes.specs.Reading.{operator_byte, Rest, RestToken, RestText, RestNumber, IsState, Stepped};
 
-use crate::first::language::{Argument, Calls, ReadFault, Sign, Sum, Text};
+use crate::first::language::{Argument, Calls, FirstFault, Sign, Sum, Text};
 use crate::first::state::{Next, Operator, State};
 use crate::first::sums::sum_at;
 use std::alloc::Global;
@@ -60,7 +60,7 @@ fn text_step<'a>(
     at: usize,
     calls: &mut Calls<'a>,
     start: usize,
-) -> Result<State, ReadFault>
+) -> Result<State, FirstFault>
     requires place { at < length source.now }
     requires valid { IsState at (State.Text start) }
     ensures { Stepped (RestText (slice_range source.entry.now start at) calls.old) source.entry.now at (slice_index source.entry.now at) calls.new result }
@@ -71,7 +71,7 @@ fn text_step<'a>(
         return Ok(State::Token(&[], Next::Close));
     }
     if at - start >= MAX_TEXT {
-        return Err(ReadFault::NotYet(at));
+        return Err(FirstFault::NotYet(at));
     }
     advance(at, stands_in_text(byte), State::Text(start))
 }
@@ -82,23 +82,23 @@ fn digit_step(
     before: Option<(Sum, Operator)>,
     value: u64,
     digit: u64,
-) -> Result<State, ReadFault>
+) -> Result<State, FirstFault>
     requires value { IsTrue (is_number value) }
     requires digit { digit < 10 }
     ensures { (source : List ℕ) (done : List Argument) → Stepped (RestNumber before value done) source at (48 + digit) done result }
 {
     if value == 0 {
-        return Err(ReadFault::NotYet(at));
+        return Err(FirstFault::NotYet(at));
     }
     let longer = value * 10 + digit;
     if longer > MAX_NUMBER {
-        return Err(ReadFault::NotYet(at));
+        return Err(FirstFault::NotYet(at));
     }
     Ok(State::Number(before, longer))
 }
 
 /// The step over a byte behind a number of a sum, which is no blank. `)` adds the sum to the calls.
-fn sum_step(at: usize, calls: &mut Calls<'_>, sum: Sum, byte: u8) -> Result<State, ReadFault>
+fn sum_step(at: usize, calls: &mut Calls<'_>, sum: Sum, byte: u8) -> Result<State, FirstFault>
     requires { is_blank byte ≡ false }
     ensures { (source : List ℕ) → Stepped (RestToken [] (Next.Operator sum) calls.old) source at byte calls.new result }
 {
@@ -108,12 +108,12 @@ fn sum_step(at: usize, calls: &mut Calls<'_>, sum: Sum, byte: u8) -> Result<Stat
     }
     match operator_of(byte) {
         Some(operator) => Ok(State::Token(&[], Next::Number(sum, operator))),
-        None => Err(ReadFault::NotYet(at)),
+        None => Err(FirstFault::NotYet(at)),
     }
 }
 
 /// The step over the first byte of an argument.
-fn argument_step(at: usize, byte: u8) -> Result<State, ReadFault>
+fn argument_step(at: usize, byte: u8) -> Result<State, FirstFault>
     requires solid { is_blank byte ≡ false }
     requires room { at + 1 < 2 ^ 64 }
     ensures { (source : List ℕ) (done : List Argument) → Stepped (RestToken [] Next.Argument done) source at byte done result }
@@ -123,34 +123,34 @@ fn argument_step(at: usize, byte: u8) -> Result<State, ReadFault>
     }
     match digit_of(byte) {
         Some(digit) => Ok(State::Number(None, digit)),
-        None => Err(ReadFault::NotYet(at)),
+        None => Err(FirstFault::NotYet(at)),
     }
 }
 
 /// The step over the first byte of a number behind an operator.
-fn number_step(at: usize, sum: Sum, operator: Operator, byte: u8) -> Result<State, ReadFault>
+fn number_step(at: usize, sum: Sum, operator: Operator, byte: u8) -> Result<State, FirstFault>
     requires { is_blank byte ≡ false }
     ensures { (source : List ℕ) (done : List Argument) → Stepped (RestToken [] (Next.Number sum operator) done) source at byte done result }
 {
     match digit_of(byte) {
         Some(digit) => Ok(State::Number(Some((sum, operator)), digit)),
-        None => Err(ReadFault::NotYet(at)),
+        None => Err(FirstFault::NotYet(at)),
     }
 }
 
 /// The state, where the byte at that place leads to it.
-fn advance(at: usize, fits: bool, state: State) -> Result<State, ReadFault>
-    ensures { result ≡ (if fits then Ok state else Err (ReadFault.NotYet at)) }
+fn advance(at: usize, fits: bool, state: State) -> Result<State, FirstFault>
+    ensures { result ≡ (if fits then Ok state else Err (FirstFault.NotYet at)) }
 {
     if fits {
         Ok(state)
     } else {
-        Err(ReadFault::NotYet(at))
+        Err(FirstFault::NotYet(at))
     }
 }
 
 /// The step over the first byte of a token.
-fn token_step(at: usize, calls: &mut Calls<'_>, next: Next, byte: u8) -> Result<State, ReadFault>
+fn token_step(at: usize, calls: &mut Calls<'_>, next: Next, byte: u8) -> Result<State, FirstFault>
     requires solid { is_blank byte ≡ false }
     requires room { at + 1 < 2 ^ 64 }
     ensures { (source : List ℕ) → Stepped (RestToken [] next calls.old) source at byte calls.new result }
@@ -167,7 +167,7 @@ fn token_step(at: usize, calls: &mut Calls<'_>, next: Next, byte: u8) -> Result<
 }
 
 /// The step over a byte behind a token, which may be a blank.
-fn behind_step(at: usize, calls: &mut Calls<'_>, next: Next, byte: u8) -> Result<State, ReadFault>
+fn behind_step(at: usize, calls: &mut Calls<'_>, next: Next, byte: u8) -> Result<State, FirstFault>
     requires { at + 1 < 2 ^ 64 }
     ensures { (source : List ℕ) → Stepped (RestToken [] next calls.old) source at byte calls.new result }
 {
@@ -185,7 +185,7 @@ fn value_step(
     before: Option<(Sum, Operator)>,
     value: u64,
     byte: u8,
-) -> Result<State, ReadFault>
+) -> Result<State, FirstFault>
     requires room { at + 1 < 2 ^ 64 }
     requires value { IsTrue (is_number value) }
     ensures { (source : List ℕ) → Stepped (RestNumber before value calls.old) source at byte calls.new result }
@@ -206,7 +206,7 @@ pub(crate) fn step<'a>(
     at: usize,
     calls: &mut Calls<'a>,
     state: State,
-) -> Result<State, ReadFault>
+) -> Result<State, FirstFault>
     requires place { at < length source.now }
     requires valid { IsState at state }
     ensures { Stepped (Rest source.entry.now at state calls.old) source.entry.now at (slice_index source.entry.now at) calls.new result }

@@ -3,14 +3,14 @@
 ghost use Rattle.std.specs.Prelude.{◌≡◌, ◌++◌, [], ◌∷◌, IfOk, IfErr};
 ghost use Rattle.hermes.specs.Reading.{steps_of, steps_with};
 
-use crate::first::language::{Addend, ReadFault, Series, Sum, Term};
+use crate::first::language::{Addend, FirstFault, Series, Sum, Term};
 use crate::first::state::Operator;
 use std::alloc::Global;
 
 /// The sum with one factor more at its end.
-fn multiplied(mut sum: Sum, number: u64) -> Result<Sum, ReadFault>
+fn multiplied(mut sum: Sum, number: u64) -> Result<Sum, FirstFault>
     ensures value { IfOk result (λ s. steps_of s ≡ steps_of sum ++ (Operator.Times, number) ∷ []) }
-    ensures memory { IfErr result (λ fault. fault ≡ ReadFault.Memory) }
+    ensures memory { IfErr result (λ fault. fault ≡ FirstFault.Memory) }
 {
     match sum.others.pop() {
         Some(mut last) => {
@@ -26,9 +26,9 @@ fn multiplied(mut sum: Sum, number: u64) -> Result<Sum, ReadFault>
 }
 
 /// The sum with one number more at its end.
-fn extended(alloc: Global, mut sum: Sum, operator: Operator, number: u64) -> Result<Sum, ReadFault>
+fn extended(alloc: Global, mut sum: Sum, operator: Operator, number: u64) -> Result<Sum, FirstFault>
     ensures value { IfOk result (λ s. steps_of s ≡ steps_of sum ++ (operator, number) ∷ []) }
-    ensures memory { IfErr result (λ fault. fault ≡ ReadFault.Memory) }
+    ensures memory { IfErr result (λ fault. fault ≡ FirstFault.Memory) }
 {
     match operator {
         Operator::Sign(sign) => {
@@ -48,9 +48,9 @@ pub(crate) fn sum_at(
     alloc: Global,
     before: Option<(Sum, Operator)>,
     number: u64,
-) -> Result<Sum, ReadFault>
+) -> Result<Sum, FirstFault>
     ensures value { IfOk result (λ s. steps_of s ≡ steps_with before number) }
-    ensures memory { IfErr result (λ fault. fault ≡ ReadFault.Memory) }
+    ensures memory { IfErr result (λ fault. fault ≡ FirstFault.Memory) }
 {
     match before {
         Some((sum, operator)) => extended(alloc, sum, operator, number),

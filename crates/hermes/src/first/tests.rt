@@ -1,14 +1,14 @@
-use crate::first::language::{Argument, ReadFault, Sign};
+use crate::first::language::{Argument, FirstFault, Sign};
 use crate::first::reader::read_first;
 use std::alloc::Global;
 use std::test::Fail;
 
 // Where reading stops, or None where all is read.
-fn stop(alloc: Global, source: &[u8]) -> Result<Option<usize>, ReadFault> {
+fn stop(alloc: Global, source: &[u8]) -> Result<Option<usize>, FirstFault> {
     match read_first(alloc, source) {
         Ok(_) => Ok(None),
-        Err(ReadFault::NotYet(at)) => Ok(Some(at)),
-        Err(ReadFault::Memory) => Err(ReadFault::Memory),
+        Err(FirstFault::NotYet(at)) => Ok(Some(at)),
+        Err(FirstFault::Memory) => Err(FirstFault::Memory),
     }
 }
 
@@ -95,17 +95,17 @@ fn stops_at_the_end_of_a_prefix(rt: HostRuntime) -> Result<(), Fail> {
 }
 
 // A source that prints one text of so many letters.
-fn long_text(alloc: Global, letters: usize) -> Result<Vec<u8>, ReadFault> {
+fn long_text(alloc: Global, letters: usize) -> Result<Vec<u8>, FirstFault> {
     let mut source = Vec::new(alloc);
     source
         .extend_from_slice(b"\"use strict\";print(\"")
-        .map_err(|_| ReadFault::Memory)?;
+        .map_err(|_| FirstFault::Memory)?;
     for _ in 0..letters {
         source.push(b'a')?;
     }
     source
         .extend_from_slice(b"\");")
-        .map_err(|_| ReadFault::Memory)?;
+        .map_err(|_| FirstFault::Memory)?;
     Ok(source)
 }
 

@@ -3,6 +3,7 @@
 ghost use Rattle.std.specs.Prelude.{◌≡◌, ◌+◌, ◌^◌, ◌<◌, ◌≤◌, length};
 ghost use Rattle.hz_file.specs.Rules.{footer_rule, first_difference};
 
+use crate::layout;
 use sha1::Sha1;
 
 /// The place of the first byte that differs, of bytes that stand at a place.
@@ -24,7 +25,7 @@ pub(crate) fn footer_fault(bytes: &[u8]) -> Option<usize>
     requires { 148 ≤ length bytes.now }
     ensures { result ≡ footer_rule bytes.now }
 {
-    let end = bytes.len() - 20;
+    let end = bytes.len() - layout::FOOTER;
     let want = Sha1::digest(&bytes[..end]);
     difference(&want, &bytes[end..], end)
 }

@@ -3,9 +3,9 @@
 ghost use Rattle.std.specs.Prelude.{◌≡◌, ◌+◌, ◌≤◌, length};
 ghost use Rattle.hz_file.specs.Rules.{functions_rule, code_rule, is_header};
 
+use crate::layout;
 use crate::numbers::{u16_at, u32_at, u64_at};
 use crate::rules::header::unless;
-use crate::sections::FIRST_HEADER;
 
 /// Whether a header keeps its rules.
 fn is_header(bytes: &[u8], at: usize) -> bool
@@ -21,10 +21,14 @@ pub(crate) fn functions_fault(bytes: &[u8]) -> Option<usize>
     requires { 148 ≤ length bytes.now }
     ensures { result ≡ functions_rule bytes.now }
 {
-    let is_script = bytes[FIRST_HEADER] / 4 == 0;
-    unless(u64_at(bytes, 48) == 1, 48).or(unless(
-        is_header(bytes, FIRST_HEADER) && is_script,
-        FIRST_HEADER,
+    let is_script = bytes[layout::FIRST_HEADER] / 4 == 0;
+    unless(
+        u64_at(bytes, layout::FUNCTION_COUNT) == 1,
+        layout::FUNCTION_COUNT,
+    )
+    .or(unless(
+        is_header(bytes, layout::FIRST_HEADER) && is_script,
+        layout::FIRST_HEADER,
     ))
 }
 
@@ -32,7 +36,10 @@ pub(crate) fn code_fault(bytes: &[u8]) -> Option<usize>
     requires { 148 ≤ length bytes.now }
     ensures { result ≡ code_rule bytes.now }
 {
-    let place = u32_at(bytes, FIRST_HEADER + 4) as u64;
-    let size = u16_at(bytes, FIRST_HEADER + 8) as u64;
-    unless(0 < size && place + size <= u64_at(bytes, 88), FIRST_HEADER)
+    let place = u32_at(bytes, layout::FIRST_HEADER + 4) as u64;
+    let size = u16_at(bytes, layout::FIRST_HEADER + 8) as u64;
+    unless(
+        0 < size && place + size <= u64_at(bytes, layout::CODE_LENGTH),
+        layout::FIRST_HEADER,
+    )
 }

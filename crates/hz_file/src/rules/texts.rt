@@ -3,8 +3,9 @@
 ghost use Rattle.std.specs.Prelude.{◌≡◌, ◌+◌, ◌≤◌, length};
 ghost use Rattle.std.specs.List.{list_any, list_all};
 ghost use Rattle.hz_file.specs.Layout.{Fills, wide_units, storage_length};
-ghost use Rattle.hz_file.specs.Rules.{entries_rule, texts_rule, is_text, is_kept, is_ascii_unit, is_past_ascii};
+ghost use Rattle.hz_file.specs.Rules.{entries_rule, texts_rule, has_its_width, is_text_entry, is_ascii_unit, is_past_ascii};
 
+use crate::layout;
 use crate::numbers::{part, u64_at};
 use crate::rules::header::unless;
 use crate::sections::{Entry, storage_at, string_count, strings_at};
@@ -45,8 +46,8 @@ fn is_narrow(text: &[u8]) -> bool
 }
 
 /// Whether a text is wide exactly where it has a unit of 128 or more.
-fn is_text(wide: bool, text: &[u8]) -> bool
-    ensures { result ≡ is_text wide text.now }
+fn has_its_width(wide: bool, text: &[u8]) -> bool
+    ensures { result ≡ has_its_width wide text.now }
 {
     if wide {
         has_past_ascii(text)
@@ -57,15 +58,15 @@ fn is_text(wide: bool, text: &[u8]) -> bool
 
 /// Whether the text of an entry begins where the one before it ends, lies in the storage, and has its
 /// width.
-fn is_kept(bytes: &[u8], next: usize, entry: Entry) -> bool
+fn is_text_entry(bytes: &[u8], next: usize, entry: Entry) -> bool
     requires fills { Fills bytes.now }
     requires next { next ≤ storage_length bytes.now }
-    ensures { result ≡ is_kept bytes.now next entry.word }
+    ensures { result ≡ is_text_entry bytes.now next entry.word }
 {
     let size = entry.size();
     entry.place() == next
-        && next + size <= u64_at(bytes, 96) as usize
-        && is_text(entry.is_wide(), part(bytes, storage_at(bytes) + next, size))
+        && next + size <= u64_at(bytes, layout::STORAGE_LENGTH) as usize
+        && has_its_width(entry.is_wide(), part(bytes, storage_at(bytes) + next, size))
 }
 
 pub(crate) fn texts_fault(bytes: &[u8]) -> Option<usize>
@@ -77,10 +78,13 @@ pub(crate) fn texts_fault(bytes: &[u8]) -> Option<usize>
     for id in 0..string_count(bytes) as usize {
         let at = strings + 4 * id;
         let entry = Entry::at(bytes, at);
-        if !is_kept(bytes, next, entry) {
+        if !is_text_entry(bytes, next, entry) {
             return Some(at);
         }
         next += entry.size();
     }
-    unless(next == u64_at(bytes, 96) as usize, storage_at(bytes))
+    unless(
+        next == u64_at(bytes, layout::STORAGE_LENGTH) as usize,
+        storage_at(bytes),
+    )
 }
