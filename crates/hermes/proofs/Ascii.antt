@@ -12,7 +12,7 @@ use Rattle.hermes.specs.declared.first.language.Addend.{Addend}
 use Rattle.hermes.specs.declared.first.language.Sum.{Sum}
 use Rattle.hermes.specs.declared.first.language.Argument.{Argument}
 use Rattle.hermes.specs.declared.first.language.Argument.TheVariants as argument
-use Rattle.hermes.specs.FirstTexts.{directive, sign_token, factor_tokens, term_tokens, addend_tokens, sum_tokens, quoted, argument_tokens, call_tokens, first_tokens, is_blank, Spaced, is_number, is_text_byte, is_text, is_term, is_addend, is_sum, is_argument, IsFirst}
+use Rattle.hermes.specs.FirstTexts.{directive, sign_byte, factor_tokens, term_tokens, addend_tokens, sum_tokens, quoted, argument_tokens, call_tokens, first_tokens, is_blank, Spaced, is_number, is_text_byte, is_text, is_term, is_addend, is_sum, is_argument, IsFirst}
 
 abbrev pub AreAscii : List (List ℕ) → Type 0
 AreAscii [] = Unit {0}
@@ -51,7 +51,7 @@ term_ascii t h =
     let p = both_true (is_number t.first) (list_all is_number t.others) h in
     (number_ascii t.first p.0, factors_ascii t.others p.1)
 
-sign_ascii : (s : Sign) → IsAscii (sign_token s)
+sign_ascii : (s : Sign) → IsAscii (sign_byte s ∷ [])
 sign_ascii Plus = one_ascii 43 (omega arith)
 sign_ascii Minus = one_ascii 45 (omega arith)
 

@@ -13,12 +13,12 @@ use Rattle.hermes.specs.FirstTexts.{IsAccepted}
 use Rattle.hermes.specs.Saying.{lines_of, end_of}
 use Rattle.hermes.specs.Scripts.{script}
 
-pub compiled : (source bytes code : List ℕ) (texts : List (List ℕ)) (registers : ℕ) (calls : List Argument) → IsAccepted source calls → HasMagic bytes → rule bytes ≡ None
-    → file.module_of bytes ≡ script_module (program false source texts registers code)
-    → Ends (script code texts registers) (start_of (script code texts registers)) (lines_of calls) (end_of calls)
-    → IsBuilt (script code texts registers) (start_of (script code texts registers)) → IsCompiled source calls bytes
-compiled source bytes code texts registers calls accepted magic opens holds says built =
-    let same : script code texts registers ≡ code_in bytes = ap code_module (sym holds) in
+pub compiled : (source bytes instructions : List ℕ) (texts : List (List ℕ)) (registers : ℕ) (calls : List Argument) → IsAccepted source calls → HasMagic bytes → rule bytes ≡ None
+    → file.module_of bytes ≡ script_module (program false source texts registers instructions)
+    → Ends (script instructions texts registers) (start_of (script instructions texts registers)) (lines_of calls) (end_of calls)
+    → IsBuilt (script instructions texts registers) (start_of (script instructions texts registers)) → IsCompiled source calls bytes
+compiled source bytes instructions texts registers calls accepted magic opens holds says built =
+    let same : script instructions texts registers ≡ code_in bytes = ap code_module (sym holds) in
     record {
       accepted = accepted;
       magic = magic;

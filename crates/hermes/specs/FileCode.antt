@@ -5,7 +5,7 @@ use Rattle.hz_file.specs.Module as file
 use Rattle.hz_ops.specs.Activations as code
 
 -- a stub has no code
-abbrev pub function_code : file.FunctionParts → code.FunctionCode
+abbrev pub function_code : file.ModuleFunction → code.FunctionCode
 function_code f = record { code = unwrap_or f.code []; registers = f.registers }
 
 -- the functions and texts of a file, as the meaning of code reads them

@@ -3,6 +3,7 @@ use Rattle.std.proofs.Common.{◌≡◌, ℕ, [], ◌∷◌, codes, refl, Some, 
 use Rattle.std.specs.Fmt.{digits}
 use Rattle.hz_value.specs.declared.leaving.Left.TheVariants.{NotSafe}
 use Rattle.hermes.specs.FirstTexts.{directive, first_tokens}
+use Rattle.hz_ops.specs.Runs.{Done, LeftFor}
 use Rattle.hermes.specs.Saying.{lines_of, end_of}
 use Rattle.hermes.specs.declared.first.language.Sign.TheVariants.{Plus, Minus}
 use Rattle.hermes.specs.declared.first.language.Term.{Term}

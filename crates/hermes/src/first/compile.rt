@@ -17,6 +17,7 @@ pub const MAX_SOURCE: usize = 4095;
 ///
 /// `NotYet` comes exactly where the source is longer than 4,095 bytes, with the place 4095, or is no first text,
 /// with the length of its longest prefix that begins one. `Memory` comes where memory runs out.
+#[tactic(auto, using(crate::proofs::Ascii::first_below, crate::proofs::Compiling::compiled))]
 pub fn compile_first(alloc: Global, source: &[u8]) -> Result<Vec<u8>, FirstFault>
     ensures { MatchResult result (λ file. Compiles source.now file.items) (λ fault. FaultOf source.now fault) }
 {
