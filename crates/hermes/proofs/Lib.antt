@@ -1,7 +1,1 @@
-pub mod Between
-pub mod Instructions
-pub mod SumRuns
-pub mod CallRuns
-pub mod CallCodes
-pub mod ScriptRooms
-mod SayingRows
+pub mod generating

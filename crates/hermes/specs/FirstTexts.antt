@@ -1,5 +1,5 @@
 -- First texts: which bytes spell which calls, and where bytes stop beginning such a text.
-use Rattle.std.specs.Prelude.{◌≡◌, ℕ, ◌+◌, ◌*◌, ◌<◌, ◌≤◌, Bool, not, ◌&&◌, ◌||◌, ◌==◌, nat_le, IsTrue, List, [], ◌∷◌, ◌++◌, length, take, decimal, codes, flat_map, sum_by}
+use Rattle.std.specs.Prelude.{◌≡◌, ℕ, ◌+◌, ◌*◌, ◌<◌, ◌≤◌, Bool, not, ◌&&◌, ◌||◌, ◌==◌, nat_le, nat_lt, IsTrue, MatchBool, List, [], ◌∷◌, ◌++◌, length, take, decimal, codes, flat_map}
 use Rattle.std.specs.List.{list_all}
 use Rattle.hermes.specs.declared.first.language.Sign.{Sign}
 use Rattle.hermes.specs.declared.first.language.Sign.TheVariants.{Plus, Minus}
@@ -92,12 +92,25 @@ pub record IsStuck (bytes : List ℕ) (at : ℕ) : Type 0 where
   pub longest : (n : ℕ) → at < n → n ≤ length bytes → Begins (take n bytes) → ⊥
 
 -- How many bytes a text has at least, without its directive: nine for each call, two for each further number, and those of its texts.
+abbrev pub addend_numbers : List Addend → ℕ
+addend_numbers [] = 0
+addend_numbers (a ∷ addends) = 1 + length a.term.others + addend_numbers addends
+
 abbrev pub further_numbers : Sum → ℕ
-further_numbers s = length s.first.others + sum_by (λ a. 1 + length a.term.others) s.others
+further_numbers s = length s.first.others + addend_numbers s.others
 
 abbrev pub weight_of : Argument → ℕ
 weight_of (argument.Text text) = 9 + length text
 weight_of (argument.Sum s) = 9 + 2 * further_numbers s
 
 abbrev pub weight : List Argument → ℕ
-weight calls = sum_by weight_of calls
+weight [] = 0
+weight (a ∷ calls) = weight_of a + weight calls
+
+-- The text of a file runs with these calls: it has at most 4,095 bytes.
+abbrev pub IsAccepted : List ℕ → List Argument → Type 0
+IsAccepted file calls = (length file ≤ 4095) × IsFirst calls file
+
+-- The text of a file is refused at that place: behind 4,095 bytes where it has more, else where it is stuck.
+abbrev pub IsRefused : List ℕ → ℕ → Type 0
+IsRefused file at = MatchBool (nat_lt 4095 (length file)) (at ≡ 4095) (IsStuck file at)

@@ -8,9 +8,9 @@ use Rattle.hz_ops.proofs.Running.{ended_is_built}
 use Rattle.hermes.specs.Saying.{lines_of, end_of}
 use Rattle.hermes.specs.Scripts.{script}
 use Rattle.hermes.specs.Generated.{argument_texts, script_code, script_texts}
-use Rattle.hermes.proofs.CallCodes.{texts_made, code_made}
-use Rattle.hermes.proofs.CallRuns.{script_says}
-use Rattle.hermes.proofs.ScriptRooms.{script_room, some_code, calls_weight, texts_count, texts_units, script_short}
+use Rattle.hermes.proofs.generating.CallCodes.{texts_made, code_made}
+use Rattle.hermes.proofs.generating.CallRuns.{script_says}
+use Rattle.hermes.proofs.generating.ScriptRooms.{script_room, some_code, calls_weight, texts_count, texts_units, script_short}
 use Rattle.hermes.proofs.first.generate.generate.Goals as goal
 
 pub returns-clause-says : goal.returns-clause-says

@@ -1,5 +1,5 @@
 use Rattle.std.proofs.Common.{length, length-append, ap, ◌∙◌}
-use Rattle.hermes.proofs.CallCodes.{one_more, one_more_text}
+use Rattle.hermes.proofs.generating.CallCodes.{one_more, one_more_text}
 use Rattle.hermes.proofs.first.generate.calls.push_calls.Goals as goal
 
 pub loop-argument-preserved : goal.loop-argument-preserved

@@ -19,8 +19,8 @@ use Rattle.hermes.specs.declared.first.language.Sum.{Sum}
 use Rattle.hermes.specs.FirstTexts.{is_number, is_term, is_addend, is_sum}
 use Rattle.hermes.specs.Saying.{times, term_value, signed_sum, plus, sum_value}
 use Rattle.hermes.specs.Generated.{argument_register, term, factor, load_int, combine, factor_code, term_code, sign_operation, addend_code, sum_code}
-use Rattle.hermes.proofs.Between.{at, Between, front_part, back_part, Leads, leads_over_none, Gives, gives_behind, gives_next}
-use Rattle.hermes.proofs.Instructions.{loads_int, Operates, combines}
+use Rattle.hermes.proofs.generating.Between.{at, Between, front_part, back_part, Leads, leads_over_none, Gives, gives_behind, gives_next}
+use Rattle.hermes.proofs.generating.Instructions.{loads_int, Operates, combines}
 
 -- the registers: callee, this, argument, term and factor
 abbrev pub five : Content → Content → Content → Content → Content → List Content

@@ -18,7 +18,7 @@ use Rattle.hz_ops.proofs.Running.{goes_on, leaves, step_in_place}
 use Rattle.hz_ops.proofs.Rows.{undefined_loaded, int_loaded, string_loaded, print_loaded, operated}
 use Rattle.hermes.specs.FirstTexts.{is_number}
 use Rattle.hermes.specs.Generated.{bytes_of, load_int, combine}
-use Rattle.hermes.proofs.Between.{at, Between, Leads, leads_by, Gives}
+use Rattle.hermes.proofs.generating.Between.{at, Between, Leads, leads_by, Gives}
 
 -- an instruction that fits the long form fits the form that it is written in
 pub fits_shortest : (operation : Op) (os : List Operand) → operands_fit true (kinds_of operation) os ≡ true → fits_of (shortest_of operation os) ≡ true

@@ -23,9 +23,9 @@ use Rattle.hermes.specs.FirstTexts.{is_sum, is_argument}
 use Rattle.hermes.specs.Saying.{sum_value, lines_of, end_of}
 use Rattle.hermes.specs.Scripts.{script}
 use Rattle.hermes.specs.Generated.{callee, this, argument_register, bytes_of, sum_code, argument_code, opening_code, closing_code, call_code, argument_texts, calls_code, end_code, script_code, script_texts}
-use Rattle.hermes.proofs.Between.{at, Between, front_part, back_part, same_code, Leads, leads_on, leads_by, Gives}
-use Rattle.hermes.proofs.Instructions.{step_over, loads_undefined, loads_print, loads_text}
-use Rattle.hermes.proofs.SumRuns.{five, HoldsSum, sum_runs}
+use Rattle.hermes.proofs.generating.Between.{at, Between, front_part, back_part, same_code, Leads, leads_on, leads_by, Gives}
+use Rattle.hermes.proofs.generating.Instructions.{step_over, loads_undefined, loads_print, loads_text}
+use Rattle.hermes.proofs.generating.SumRuns.{five, HoldsSum, sum_runs}
 
 -- a text that has one line as its content prints that line
 one_argument : (x : Content) (line : List ℕ) → text_of x ≡ Some line → line_of (x ∷ []) ≡ Some line
