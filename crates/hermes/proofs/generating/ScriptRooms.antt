@@ -23,6 +23,12 @@ use Rattle.hermes.specs.Generated.{argument_register, term, factor, bytes_of, lo
 
 -- ---- weights
 
+addends_heavier : (a : Addend) (addends : List Addend) → addend_numbers (a ∷ addends) ≡ 1 + length a.term.others + addend_numbers addends
+addends_heavier a addends = refl
+
+heavier : (a : Argument) (calls : List Argument) → weight (a ∷ calls) ≡ weight_of a + weight calls
+heavier a calls = refl
+
 nine_each : (a : Argument) → 9 ≤ weight_of a
 nine_each (argument.Text text) = omega arith
 nine_each (argument.Sum s) = omega arith
@@ -64,7 +70,7 @@ term_room to t short =
 addends_room : (addends : List Addend) → length (flat_map addend_code addends) ≤ 22 * addend_numbers addends
 addends_room [] = lit≤ tt
 addends_room (a ∷ addends) =
-    omega (arith, length-append (term_code term a.term ++ combine (sign_operation a.sign) argument_register term) (flat_map addend_code addends), length-append (term_code term a.term) (combine (sign_operation a.sign) argument_register term), term_room term a.term multiplies_in_term, add_room a.sign, addends_room addends)
+    omega (arith, length-append (term_code term a.term ++ combine (sign_operation a.sign) argument_register term) (flat_map addend_code addends), length-append (term_code term a.term) (combine (sign_operation a.sign) argument_register term), term_room term a.term multiplies_in_term, add_room a.sign, addends_heavier a addends, addends_room addends)
 
 argument_room : (id : ℕ) (a : Argument) → length (argument_code id a) + 82 ≤ 11 * weight_of a
 argument_room id (argument.Text text) = omega (arith, bytes_room op.LoadString (Register argument_register ∷ Text id ∷ []))
@@ -81,7 +87,7 @@ call_room id a =
 calls_room : (id : ℕ) (calls : List Argument) → length (calls_code id calls) ≤ 11 * weight calls
 calls_room id [] = lit≤ tt
 calls_room id (a ∷ calls) =
-    omega (arith, length-append (call_code id a) (calls_code (id + length (argument_texts a)) calls), call_room id a, calls_room (id + length (argument_texts a)) calls)
+    omega (arith, length-append (call_code id a) (calls_code (id + length (argument_texts a)) calls), call_room id a, heavier a calls, calls_room (id + length (argument_texts a)) calls)
 
 pub script_room : (calls : List Argument) → length (script_code calls) ≤ 11 * weight calls + 18
 script_room calls =
@@ -96,7 +102,7 @@ some_code calls =
 -- each call weighs nine at least
 pub calls_weight : (calls : List Argument) → 9 * length calls ≤ weight calls
 calls_weight [] = lit≤ tt
-calls_weight (a ∷ calls) = omega (arith, nine_each a, calls_weight calls)
+calls_weight (a ∷ calls) = omega (arith, heavier a calls, nine_each a, calls_weight calls)
 
 one_text : (a : Argument) → length (argument_texts a) ≤ 1
 one_text (argument.Text text) = lit≤ tt
@@ -113,7 +119,7 @@ argument_units (argument.Sum s) = omega arith
 pub texts_units : (calls : List Argument) → length (concat (flat_map argument_texts calls)) ≤ weight calls
 texts_units [] = lit≤ tt
 texts_units (a ∷ calls) =
-    omega (arith, ap length (concat-append (argument_texts a) (flat_map argument_texts calls)), length-append (concat (argument_texts a)) (concat (flat_map argument_texts calls)), argument_units a, texts_units calls)
+    omega (arith, ap length (concat-append (argument_texts a) (flat_map argument_texts calls)), length-append (concat (argument_texts a)) (concat (flat_map argument_texts calls)), argument_units a, heavier a calls, texts_units calls)
 
 all_first : {X : Type 0} (P : X → Type 0) (x : X) (xs : List X) → P x → All P xs → All P (x ∷ xs)
 all_first P x xs here others zero d within = here

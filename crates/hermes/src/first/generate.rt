@@ -32,13 +32,18 @@ pub struct Generated {
 
 /// Code that prints what the first text says, and ends as it ends. Text 0 is `print`, and the text
 /// arguments follow in order. The code has from 1 to 65,535 bytes. There are at most 65,536 texts, each of
-/// at most 254 units below 128, all together at most 8,388,607 units.
+/// at most 254 units below 128, all together at most 8,388,607 units. `Memory` comes where memory runs out.
 pub fn generate(alloc: Global, calls: &Calls<'_>) -> Result<Generated, Memory>
     requires parts { IsTrue (list_all is_argument calls.now) }
     requires small { weight calls.now ≤ 4095 }
-    ensures says { IfOk result (λ g. let m = script g.code.items g.texts g.registers in Ends m (start_of m) (lines_of calls.now) (end_of calls.now)) }
-    ensures built { IfOk result (λ g. let m = script g.code.items g.texts g.registers in IsBuilt m (start_of m)) }
+    ensures says { IfOk result (λ g.
+        let m = script g.code.items g.texts g.registers in
+        Ends m (start_of m) (lines_of calls.now) (end_of calls.now)) }
+    ensures built { IfOk result (λ g.
+        let m = script g.code.items g.texts g.registers in
+        IsBuilt m (start_of m)) }
 
+    // What a file of one function takes.
     ensures code { IfOk result (λ g. 1 ≤ length g.code.items) }
     ensures code_fits { IfOk result (λ g. length g.code.items ≤ 65535) }
     ensures texts { IfOk result (λ g. length g.texts ≤ 65536) }

@@ -1,5 +1,5 @@
 // The code of calls of `print`.
-ghost use Rattle.std.specs.Prelude.{◌≡◌, ◌++◌, length, IsTrue, OnOk, flat_map};
+ghost use Rattle.std.specs.Prelude.{◌≡◌, ◌++◌, ◌∷◌, [], length, IsTrue, OnOk, flat_map};
 ghost use Rattle.std.specs.List.{list_all};
 ghost use Rattle.hermes.specs.FirstTexts.{is_argument};
 ghost use Rattle.hermes.specs.Generated.{argument_code, opening_code, closing_code, call_code, argument_texts, calls_code, end_code};
@@ -47,7 +47,8 @@ fn push_argument(
     texts: &mut Texts,
 ) -> Result<(), Memory>
     requires { IsTrue (is_argument argument.now) }
-    ensures code { OnOk result (code.new.items ≡ code.old.items ++ argument_code (length texts.old) argument.now) }
+    ensures code { OnOk result
+        (code.new.items ≡ code.old.items ++ argument_code (length texts.old) argument.now) }
     ensures texts { OnOk result (texts.new ≡ texts.old ++ argument_texts argument.now) }
 {
     match argument {
@@ -63,8 +64,9 @@ fn push_text(
     code: &mut Vec<u8>,
     texts: &mut Texts,
 ) -> Result<(), Memory>
-    ensures code { OnOk result (code.new.items ≡ code.old.items ++ argument_code (length texts.old) (Argument.Text text.now)) }
-    ensures texts { OnOk result (texts.new ≡ texts.old ++ argument_texts (Argument.Text text.now)) }
+    ensures code { OnOk result
+        (code.new.items ≡ code.old.items ++ argument_code (length texts.old) (Argument.Text text.now)) }
+    ensures texts { OnOk result (texts.new ≡ texts.old ++ text.now ∷ []) }
 {
     let id = texts.len() as u64;
     push(
@@ -83,7 +85,8 @@ fn push_call(
     texts: &mut Texts,
 ) -> Result<(), Memory>
     requires { IsTrue (is_argument argument.now) }
-    ensures code { OnOk result (code.new.items ≡ code.old.items ++ call_code (length texts.old) argument.now) }
+    ensures code { OnOk result
+        (code.new.items ≡ code.old.items ++ call_code (length texts.old) argument.now) }
     ensures texts { OnOk result (texts.new ≡ texts.old ++ argument_texts argument.now) }
 {
     push_opening(code)?;

@@ -25,7 +25,8 @@ fn push_number(code: &mut Vec<u8>, to: u64, number: u64) -> Result<(), Memory>
 
 /// Appends code that combines the numbers of two registers in the first of them.
 fn push_operation(code: &mut Vec<u8>, op: Op, to: u64, from: u64) -> Result<(), Memory>
-    requires { operands_fit true (kinds_of op) (Operand.Register to ∷ Operand.Register to ∷ Operand.Register from ∷ []) ≡ true }
+    requires { let operands = Operand.Register to ∷ Operand.Register to ∷ Operand.Register from ∷ [] in
+        operands_fit true (kinds_of op) operands ≡ true }
     ensures { OnOk result (code.new.items ≡ code.old.items ++ combine op to from) }
 {
     push(
