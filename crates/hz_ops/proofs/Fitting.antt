@@ -4,7 +4,6 @@ use Rattle.std.specs.Int.{to_le_bytes}
 use Rattle.hz_ops.specs.declared.number.Size.{Size}
 use Rattle.hz_ops.specs.declared.number.Size.TheVariants.{One, Two, Eight}
 use Rattle.hz_ops.specs.declared.op.OperandKind.{OperandKind}
-use Rattle.hz_ops.specs.declared.op.OperandKind.TheVariants as kind
 use Rattle.hz_ops.specs.declared.op.Operand.{Operand}
 use Rattle.hz_ops.specs.Sizes.{width, byte_count}
 use Rattle.hz_ops.specs.Coding.{size_of, number_of, operand_fits, operands_fit, operand_bytes, spelling}

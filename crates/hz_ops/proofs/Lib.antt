@@ -5,3 +5,4 @@ pub mod RoundTrip
 mod Worked
 pub mod Running
 pub mod Rows
+pub mod Registers

@@ -1,11 +1,10 @@
 -- Numbers and operands go to bytes and back.
-use Rattle.std.proofs.Common.{◌≡◌, ℕ, suc, zero, ◌+◌, ◌*◌, ◌^◌, ◌%◌, ◌<◌, ◌≤◌, Bool, true, false, ◌&&◌, List, [], ◌∷◌, ◌++◌, length, take, drop, get_or, refl, ap, ◌∙◌, sym, arith, ℤ, pos, negsuc, inl, inr, lit<}
+use Rattle.std.proofs.Common.{◌≡◌, ℕ, suc, zero, ◌*◌, ◌^◌, ◌%◌, ◌<◌, ◌≤◌, Bool, true, false, List, [], ◌∷◌, ◌++◌, length, take, drop, get_or, refl, ap, ◌∙◌, sym, arith, ℤ, pos, negsuc, inl, inr, lit<}
 use Rattle.std.proofs.lemmas.Bool.{cases_lt}
-use Rattle.std.specs.Prelude.{Option, Some, None, if◌then◌else◌, nat_lt, int_lt, int_le}
-use Rattle.std.specs.Int.{Width, w8, w16, w64, to_le_bytes, from_le_bytes, cast_signed, cast_unsigned}
+use Rattle.std.specs.Prelude.{Option, Some, None, if◌then◌else◌, nat_lt}
+use Rattle.std.specs.Int.{w8, w16, w64, to_le_bytes, from_le_bytes, cast_signed, cast_unsigned}
 use Rattle.std.proofs.lemmas.Nat.{from_le_bytes-to_le_bytes_2, from_le_bytes-to_le_bytes_8, le_bytes_2, le_bytes_8}
-use Rattle.std.proofs.lemmas.Int.{to_z-of_z, of_z-to_z, ints}
-use Rattle.std.proofs.lemmas.Grind.{common_steps}
+use Rattle.std.proofs.lemmas.Int.{to_z-of_z, of_z-to_z}
 use Rattle.std.proofs.lemmas.List.{take-append-drop, length-take-le}
 use Rattle.std.proofs.lemmas.Option.{some_pair_parts}
 use Rattle.hz_ops.specs.declared.number.Size.{Size}
@@ -15,8 +14,7 @@ use Rattle.hz_ops.specs.declared.op.OperandKind.TheVariants as kind
 use Rattle.hz_ops.specs.declared.op.Operand.{Operand}
 use Rattle.hz_ops.specs.declared.op.Operand.TheVariants.{Register, Slot, Text, Function, Int, Jump, Count}
 use Rattle.hz_ops.specs.Sizes.{width, byte_count, number_at}
-use Rattle.hz_ops.specs.Coding.{size_of, operand_of, number_of, unsigned_fits, signed_fits, operand_fits, operand_at}
-use Rattle.hz_ops.proofs.Fitting.{both}
+use Rattle.hz_ops.specs.Coding.{operand_of, number_of, unsigned_fits, signed_fits, operand_fits}
 
 -- ---- numbers
 

@@ -1,5 +1,5 @@
 -- The two laws of the coding: what was written is read again, and what is read is written as the same bytes.
-use Rattle.std.proofs.Common.{◌≡◌, ℕ, suc, zero, ◌+◌, ◌-◌, ◌*◌, ◌^◌, ◌%◌, ◌<◌, ◌≤◌, Bool, true, false, ◌&&◌, List, [], ◌∷◌, ◌++◌, length, take, drop, get_or, refl, ap, ◌∙◌, sym, subst, arith, append_assoc, length-append}
+use Rattle.std.proofs.Common.{◌≡◌, ℕ, suc, ◌+◌, ◌-◌, ◌%◌, ◌<◌, Bool, true, false, List, [], ◌∷◌, ◌++◌, length, take, drop, get_or, refl, ap, ◌∙◌, sym, subst, arith, append_assoc, length-append}
 use Rattle.std.specs.Prelude.{Option, Some, None, option_map, option_and_then, if◌then◌else◌, nat_le, ◌==◌}
 use Rattle.std.specs.Int.{to_le_bytes}
 use Rattle.std.specs.Cmp.Derive.{both_true}
@@ -13,7 +13,7 @@ use Rattle.hz_ops.specs.declared.op.Op.TheVariants.{LoadUndefined}
 use Rattle.hz_ops.specs.declared.op.OperandKind.{OperandKind}
 use Rattle.hz_ops.specs.declared.op.Operand.{Operand}
 use Rattle.hz_ops.specs.declared.instr.Instr.{Instr}
-use Rattle.hz_ops.specs.Sizes.{width, byte_count, number_at}
+use Rattle.hz_ops.specs.Sizes.{width, number_at}
 use Rattle.hz_ops.specs.Table.{number_of_op, kinds_of, among, operations, op_at}
 use Rattle.hz_ops.specs.Coding.{size_of, operand_of, number_of, operand_fits, operand_at, operands_at, operands_fit, operand_bytes, first_byte, with_operation, front, decode_at, spelling, fits_of}
 use Rattle.hz_ops.proofs.Fitting.{both}

@@ -1,10 +1,9 @@
 -- What each row does where its operands are there.
-use Rattle.std.proofs.Common.{◌≡◌, ℕ, ◌+◌, Bool, true, false, List, ◌∷◌, refl, ap, ◌∙◌, ℤ}
-use Rattle.std.specs.Prelude.{Option, Some, None, slice_get, if◌then◌else◌, bytes_eq, length, take, drop}
-use Rattle.hz_value.specs.declared.leaving.Left.TheVariants as left
+use Rattle.std.proofs.Common.{refl, ◌≡◌, ℕ, List, ap, ◌∙◌, ℤ}
+use Rattle.std.specs.Prelude.{Option, Some, None, slice_get}
 use Rattle.hz_value.specs.Numbers.{safe}
-use Rattle.hz_ops.specs.Contents.{Content, Undefined, Number, Text, Object, print_name, print_object, is_print, line_of}
-use Rattle.hz_ops.specs.Activations.{Module, Activation, written, Print, Return, Leave, Bad, Next, Goes, Does}
+use Rattle.hz_ops.specs.Contents.{Content, Undefined, Number, Text, print_name, print_object, line_of}
+use Rattle.hz_ops.specs.Activations.{Module, Activation, written, Print, Return, Bad, Next, Goes, Does}
 use Rattle.hz_ops.specs.Step.{found_to, held_to, load_undefined, load_int, load_string, global_to, load_global, number_to, on_numbers, arithmetic, return_from, row_at, line_to, called_to, call}
 
 -- goes on with what the register holds
@@ -14,6 +13,33 @@ held a r x go e = ap (found_to a go) e
 -- a register that is not there
 pub not_held : (a : Activation) (r : ℕ) (go : Content → Next) → slice_get a.registers r ≡ None → held_to r a go ≡ Does Bad a
 not_held a r go e = ap (found_to a go) e
+
+-- a row is bad code where what comes behind an operand is so in each case
+pub bad_behind : (a : Activation) (r : ℕ) (go : Content → Next) → ((x : Content) → go x ≡ Does Bad a) → held_to r a go ≡ Does Bad a
+bad_behind a r go bad = by_found (slice_get a.registers r) where
+  by_found : (found : Option Content) → found_to a go found ≡ Does Bad a
+  by_found None = refl
+  by_found (Some x) = bad x
+
+pub bad_int : (next : ℕ) (a : Activation) (r : ℕ) (z : ℤ) → safe z ≡ None → load_int next a r z ≡ Does Bad a
+bad_int next a r z unsafe = let load : ℤ → Next = λ y. Goes (written next r (Number y) a) in bad_behind a r (λ x. found_to a load (safe z)) (λ x. ap (found_to a load) unsafe)
+
+pub bad_string : (m : Module) (next : ℕ) (a : Activation) (r s : ℕ) → slice_get m.texts s ≡ None → load_string m next a r s ≡ Does Bad a
+bad_string m next a r s missing = let load : List ℕ → Next = λ y. Goes (written next r (Text y) a) in bad_behind a r (λ x. found_to a load (slice_get m.texts s)) (λ x. ap (found_to a load) missing)
+
+pub bad_global : (m : Module) (next : ℕ) (a : Activation) (r s : ℕ) → slice_get m.texts s ≡ None → load_global m next a r s ≡ Does Bad a
+bad_global m next a r s missing = bad_behind a r (λ x. found_to a (global_to next a r) (slice_get m.texts s)) (λ x. ap (found_to a (global_to next a r)) missing)
+
+-- an operator, where one of its registers is not there
+pub bad_left : (operator : ℤ → ℤ → Option ℤ) (next : ℕ) (a : Activation) (r x y : ℕ) → slice_get a.registers x ≡ None → arithmetic operator next a r x y ≡ Does Bad a
+bad_left operator next a r x y missing =
+    let last : Content → Content → Next = on_numbers operator next a r in
+    bad_behind a r (λ w. held_to x a (λ p. held_to y a (λ q. last p q))) (λ w. not_held a x (λ p. held_to y a (λ q. last p q)) missing)
+
+pub bad_right : (operator : ℤ → ℤ → Option ℤ) (next : ℕ) (a : Activation) (r x y : ℕ) → slice_get a.registers y ≡ None → arithmetic operator next a r x y ≡ Does Bad a
+bad_right operator next a r x y missing =
+    let last : Content → Content → Next = on_numbers operator next a r in
+    bad_behind a r (λ w. held_to x a (λ p. held_to y a (λ q. last p q))) (λ w. bad_behind a x (λ p. held_to y a (λ q. last p q)) (λ p. not_held a y (λ q. last p q) missing))
 
 pub undefined_loaded : (next : ℕ) (a : Activation) (r : ℕ) (old : Content) → slice_get a.registers r ≡ Some old → load_undefined next a r ≡ Goes (written next r Undefined a)
 undefined_loaded next a r old e = held a r old (λ x. Goes (written next r Undefined a)) e

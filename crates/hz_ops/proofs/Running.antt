@@ -1,10 +1,9 @@
 -- Runs of code, a step at a time.
-use Rattle.std.proofs.Common.{◌≡◌, ℕ, zero, suc, ◌+◌, List, [], ◌∷◌, ◌++◌, length, drop, refl, ap, ◌∙◌, sym, subst, append_assoc, append-nil, zero-add, suc-add, add_comm, true}
-use Rattle.std.specs.Prelude.{Option, Some, None}
+use Rattle.std.proofs.Common.{◌≡◌, ℕ, zero, suc, ◌+◌, List, [], ◌∷◌, ◌++◌, length, drop, refl, ap, ◌∙◌, sym, append_assoc, append-nil, zero-add, suc-add, add_comm, true}
+use Rattle.std.specs.Prelude.{Some, None}
 use Rattle.hz_value.specs.declared.leaving.Left.{Left}
 use Rattle.hz_ops.specs.Contents.{Content}
 use Rattle.std.proofs.Math.Seq.{drop-append_seam}
-use Rattle.std.proofs.lemmas.List.{drop-drop}
 use Rattle.hz_ops.specs.declared.instr.Instr.{Instr}
 use Rattle.hz_ops.specs.Coding.{decode_at, front, spelling, spellings, fits_of}
 use Rattle.hz_ops.specs.Activations.{Module, code_of, Activation, Act, Print, Return, Leave, Bad, Beyond, Next, Goes, Does}

@@ -1,5 +1,5 @@
 -- Modules of code, activations of their functions, and what a step of an activation does.
-use Rattle.std.specs.Prelude.{ℕ, List, [], length, replicate, slice_set, slice_get, Option, Some, None}
+use Rattle.std.specs.Prelude.{ℕ, List, [], replicate, slice_set, slice_get}
 use Rattle.std.specs.Option.{option_map_or}
 use Rattle.hz_value.specs.declared.leaving.Left.{Left}
 use Rattle.hz_ops.specs.Contents.{Content, Undefined}

@@ -1,8 +1,7 @@
 -- Instructions as bytes. The first byte is the operation's number, with 128 more in the long form; then
 -- come the operands in the order of the row, each of them with its lowest byte first.
-use Rattle.std.specs.Prelude.{ℕ, ◌+◌, ◌-◌, ◌*◌, ◌%◌, ◌^◌, Bool, true, false, not, ◌&&◌, List, [], ◌∷◌, ◌++◌, length, drop, nat_lt, nat_le, int_lt, int_le, ℤ, pos, neg_ℤ, if◌then◌else◌, Option, Some, None, option_map, option_and_then}
+use Rattle.std.specs.Prelude.{ℕ, ◌+◌, ◌-◌, ◌%◌, ◌^◌, Bool, true, false, not, ◌&&◌, List, [], ◌∷◌, ◌++◌, length, drop, nat_lt, nat_le, int_lt, int_le, ℤ, pos, neg_ℤ, if◌then◌else◌, Option, Some, None, option_map, option_and_then}
 use Rattle.std.specs.Int.{to_le_bytes, cast_signed, cast_unsigned}
-use Rattle.arrayvec.specs.ArrayVec.{ArrayVec}
 use Rattle.hz_ops.specs.declared.number.Size.{Size}
 use Rattle.hz_ops.specs.declared.number.Size.TheVariants.{One, Two, Eight}
 use Rattle.hz_ops.specs.declared.op.Op.{Op}
@@ -11,7 +10,7 @@ use Rattle.hz_ops.specs.declared.op.OperandKind.TheVariants as kind
 use Rattle.hz_ops.specs.declared.op.Operand.{Operand}
 use Rattle.hz_ops.specs.declared.op.Operand.TheVariants.{Register, Slot, Text, Function, Int, Jump, Count}
 use Rattle.hz_ops.specs.declared.instr.Instr.{Instr}
-use Rattle.hz_ops.specs.Sizes.{width, byte_count, number_at}
+use Rattle.hz_ops.specs.Sizes.{width, number_at}
 use Rattle.hz_ops.specs.Table.{number_of_op, kinds_of, op_at}
 
 -- ---- operands

@@ -12,7 +12,7 @@ use Rattle.hz_ops.specs.declared.op.Operand.{Operand}
 use Rattle.hz_ops.specs.declared.op.Operand.TheVariants as operand
 use Rattle.hz_ops.specs.declared.instr.Instr.{Instr}
 use Rattle.hz_ops.specs.Coding.{decode_at}
-use Rattle.hz_ops.specs.Contents.{Content, Undefined, Number, Text, Object, print_name, print_object, is_print, line_of}
+use Rattle.hz_ops.specs.Contents.{Content, Undefined, Number, Text, print_name, print_object, is_print, line_of}
 use Rattle.hz_ops.specs.Activations.{Module, code_of, Activation, written, Print, Return, Leave, Bad, Beyond, Next, Goes, Does}
 
 -- goes on with what was found, or is bad code

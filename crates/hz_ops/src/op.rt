@@ -52,7 +52,13 @@ pub enum Operand {
     Count(u8),
 }
 
+/// A count of nothing.
 impl Default for Operand {
+    ghost use Rattle.std.specs.Prelude.{◌≡◌};
+    ghost use Rattle.hz_ops.specs.declared.op.Operand.TheVariants.{Count};
+
+    ghost is_default = { λ o. o ≡ Count 0 };
+
     fn default() -> Operand {
         Operand::Count(0)
     }

@@ -1,4 +1,4 @@
-use Rattle.std.proofs.Common.{◌<◌, length, arith, ap}
+use Rattle.std.proofs.Common.{arith, ap}
 use Rattle.std.proofs.Math.ListN.{length-set}
 use Rattle.hz_ops.specs.Table.{kinds_of}
 use Rattle.hz_ops.specs.Coding.{first_byte, operand_bytes}

@@ -1,7 +1,7 @@
-use Rattle.std.proofs.Common.{List, ◌≡◌, ◌+◌, ◌<◌, ◌≤◌, length, drop, get_or, true, arith, ◌∙◌, ap}
+use Rattle.std.proofs.Common.{List, drop, get_or, arith, ◌∙◌}
 use Rattle.hz_ops.specs.declared.op.OperandKind.{OperandKind}
 use Rattle.hz_ops.specs.declared.op.Operand.{Operand}
-use Rattle.std.proofs.lemmas.List.{length-drop, drop-drop}
+use Rattle.std.proofs.lemmas.List.{length-drop}
 use Rattle.hz_ops.specs.declared.op.OperandKind.TheVariants as kind
 use Rattle.hz_ops.specs.declared.op.Operand.TheVariants as operand
 use Rattle.hz_ops.proofs.Fitting.{Step, step_at, same_length, rest_fits, length_left, written_more, dropped_on}

@@ -1,4 +1,4 @@
-use Rattle.std.proofs.Common.{◌≡◌, ◌+◌, ◌≤◌, ◌++◌, length, take, drop, true}
+use Rattle.std.proofs.Common.{◌≡◌, ◌+◌, ◌++◌, length, take, drop, true}
 use Rattle.hz_ops.specs.Coding.{operand_bytes, operands_fit}
 use Rattle.hz_ops.proofs.shape.Shape.write.Given as goal
 
