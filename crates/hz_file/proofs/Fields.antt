@@ -1,12 +1,12 @@
 -- The fields of a written file are read back.
-use Rattle.std.proofs.Common.{◌≡◌, ◌≤◌, ◌<◌, ℕ, zero, suc, ◌+◌, ◌*◌, ◌^◌, ◌-◌, Bool, true, false, List, [], ◌∷◌, ◌++◌, length, take, drop, get_or, slice_index, refl, sym, ◌∙◌, ap, arith, append_assoc, length-append}
+use Rattle.std.proofs.Common.{◌≡◌, ℕ, suc, ◌+◌, ◌*◌, List, [], ◌∷◌, length, refl, ◌∙◌, ap, arith, length-append}
 use Rattle.std.specs.List.{concat}
 use Rattle.std.proofs.lemmas.List.{length-replicate}
 use Rattle.std.specs.Prelude.{if◌then◌else◌}
 use Rattle.sha1.specs.Sha1.{sha1}
 use Rattle.hz_file.specs.Layout.{field, part}
-use Rattle.hz_file.specs.Image.{number, zeros, Program, IsSmall, pieces, image, body, size_of, sections, numbers, entry_words}
-use Rattle.hz_file.proofs.Pieces.{length_number, length_sha1, place, number_found, part_found, drop_found, length_concat}
+use Rattle.hz_file.specs.Image.{number, zeros, Program, IsSmall, pieces, image, body, size_of, numbers, entry_words}
+use Rattle.hz_file.proofs.Pieces.{length_number, length_sha1, place, number_found, part_found, length_concat}
 
 -- the places of the pieces
 pub record Places (p : Program) : Type 0 where

@@ -1,17 +1,17 @@
 -- A written file breaks no rule, and holds what was written.
-use Rattle.std.proofs.Common.{◌≡◌, ◌≤◌, ◌<◌, ℕ, zero, suc, ◌+◌, ◌*◌, ◌^◌, ◌-◌, ◌/◌, ◌%◌, Bool, true, false, not, ◌&&◌, List, [], ◌∷◌, ◌++◌, length, take, drop, map, get_or, slice_index, Option, Some, None, nat_lt, nat_le, nat_eq, refl, sym, ◌∙◌, ap, arith, append_assoc, length-append}
+use Rattle.std.proofs.Common.{◌≡◌, ◌≤◌, ◌<◌, ℕ, zero, suc, ◌+◌, ◌*◌, ◌-◌, ◌/◌, ◌%◌, Bool, true, false, not, ◌&&◌, List, [], ◌∷◌, ◌++◌, length, drop, map, get_or, slice_index, Option, None, nat_le, nat_eq, refl, sym, ◌∙◌, ap, arith, length-append}
 use Rattle.std.specs.Prelude.{if◌then◌else◌}
-use Rattle.std.specs.List.{concat, All}
+use Rattle.std.specs.List.{concat}
 use Rattle.std.specs.Option.{option_or}
 use Rattle.std.proofs.lemmas.List.{take_at, drop_at, get_or-take, get_or-drop}
 use Rattle.sha1.specs.Sha1.{sha1}
-use Rattle.hz_file.specs.Layout.{HasMagic, magic, field, part, function_count, string_count, overflow_count, handler_count, large_count, strings_at, storage_at, code_at, source_at, footer_at, storage_length, code_length, source_length, header_at, has_code, is_large, kind_number, code_place, code_size, entries, strict_flag}
-use Rattle.hz_file.specs.Module.{Module, module_of, text_of, function_at, functions_from, source_bytes, code_bytes}
-use Rattle.hz_file.specs.Opening.{rule, fails}
+use Rattle.hz_file.specs.Layout.{HasMagic, part, function_count, strings_at, storage_at, code_at, source_at, footer_at, code_length, has_code, is_large, kind_number, code_place, code_size, entries, strict_flag}
+use Rattle.hz_file.specs.Module.{module_of, text_of, functions_from, source_bytes, code_bytes}
+use Rattle.hz_file.specs.Opening.{rule}
 use Rattle.hz_file.specs.Rules.{size_rule, edition_rule, zero_rule, length_rule, sections_rule, functions_rule, code_rule, entries_rule, texts_rule, footer_rule, unless, first_nonzero, first_difference, is_header}
-use Rattle.hz_file.specs.Image.{Program, IsSmall, IsShortText, number, zeros, numbers, entry_words, pieces, body, image, size_of, script_module}
+use Rattle.hz_file.specs.Image.{Program, IsSmall, number, zeros, numbers, entry_words, pieces, body, image, script_module}
 use Rattle.hz_file.proofs.Pieces.{drop_found, length_sha1}
-use Rattle.hz_file.proofs.Fields.{Fields, fields, Places, places}
+use Rattle.hz_file.proofs.Fields.{fields, places}
 use Rattle.hz_file.proofs.Storage.{entries_found, none_long, none_faulty, texts_found}
 
 pub has_magic : (p : Program) → HasMagic (image p)

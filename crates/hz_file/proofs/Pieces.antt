@@ -1,13 +1,12 @@
 -- Bytes that are written one piece behind the other are found at their places.
-use Rattle.std.proofs.Common.{◌≡◌, ◌≤◌, ◌<◌, ℕ, zero, suc, ◌+◌, ◌*◌, ◌^◌, ◌-◌, List, [], ◌∷◌, ◌++◌, length, take, drop, get_or, slice_index, refl, sym, ◌∙◌, ap, arith, append_assoc, length-append}
+use Rattle.std.proofs.Common.{◌≡◌, ◌<◌, ℕ, zero, suc, ◌+◌, ◌*◌, ◌^◌, List, [], ◌∷◌, ◌++◌, length, drop, get_or, refl, arith, append_assoc, length-append}
 use Rattle.std.specs.List.{concat}
-use Rattle.std.proofs.Math.Seq.{drop-append-add, drop-append_seam, take-append_seam}
-use Rattle.std.proofs.lemmas.List.{drop_at, take_at, get_or-drop}
-use Rattle.byteorder.specs.Endian.{little_number, little_bytes}
+use Rattle.std.proofs.Math.Seq.{drop-append-add}
+use Rattle.std.proofs.lemmas.List.{take_at}
 use Rattle.byteorder.specs.Numbers.{little_number-reads_back, length-bytes_low_first}
-use Rattle.sha1.specs.Sha1.{sha1, digest_bytes, hash_after, padded_message}
+use Rattle.sha1.specs.Sha1.{sha1, digest_bytes}
 use Rattle.hz_file.specs.Layout.{field, part}
-use Rattle.hz_file.specs.Image.{number, zeros}
+use Rattle.hz_file.specs.Image.{number}
 
 pub length_number : (n x : ℕ) → length (number n x) ≡ n
 unfolding number

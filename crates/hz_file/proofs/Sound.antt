@@ -1,12 +1,11 @@
 -- What holds of the bytes of a file that breaks no rule.
-use Rattle.std.proofs.Common.{◌≡◌, ◌≤◌, ◌<◌, ℕ, zero, suc, ◌+◌, ◌-◌, ◌*◌, ◌/◌, Bool, true, false, ◌&&◌, cond, nat_eq, nat_le, nat_lt, List, [], ◌∷◌, length, map, slice_get, Option, Some, None, refl, sym, ◌∙◌, ap, arith}
+use Rattle.std.proofs.Common.{◌≡◌, ◌≤◌, ◌<◌, ℕ, zero, suc, ◌+◌, ◌*◌, Bool, true, false, ◌&&◌, cond, nat_eq, nat_lt, List, ◌∷◌, length, Option, Some, None, refl, arith}
 use Rattle.std.specs.Option.{option_or}
 use Rattle.hz_file.specs.declared.malformed.Malformed.{Malformed}
-use Rattle.hz_file.specs.Layout.{Fills, field, function_count, string_count, strings_at, storage_length, code_length, footer_at, header_at, has_code, is_large, kind_number, code_place, code_size, entries_from, entry_place, entry_size}
-use Rattle.hz_file.specs.Module.{module_of, function_at, functions_from, text_of}
+use Rattle.hz_file.specs.Layout.{Fills, field, function_count, string_count, strings_at, storage_length, code_length, footer_at, has_code, kind_number, code_place, code_size, entries_from, entry_place, entry_size}
 use Rattle.hz_file.specs.Opening.{rule, fails}
-use Rattle.hz_file.specs.Rules.{size_rule, edition_rule, zero_rule, length_rule, sections_rule, functions_rule, code_rule, entries_rule, texts_rule, footer_rule, unless, first_faulty_text, is_text_entry, is_header}
-use Rattle.hz_file.proofs.Walking.{entries_more, kept_fits}
+use Rattle.hz_file.specs.Rules.{size_rule, edition_rule, zero_rule, length_rule, sections_rule, functions_rule, code_rule, entries_rule, texts_rule, unless, first_faulty_text, is_text_entry, is_header}
+use Rattle.hz_file.proofs.Walking.{kept_fits}
 
 pub record Sound (bytes : List ℕ) : Type 0 where
   pub fills : Fills bytes

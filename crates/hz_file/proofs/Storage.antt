@@ -1,11 +1,11 @@
 -- Texts that are written one behind the other keep the rules, and are shown again.
-use Rattle.std.proofs.Common.{◌≡◌, ◌≤◌, ◌<◌, ℕ, zero, suc, ◌+◌, ◌*◌, ◌^◌, ◌-◌, ◌/◌, ◌%◌, Bool, true, false, List, [], ◌∷◌, ◌++◌, length, take, drop, map, get_or, slice_index, Option, Some, None, nat_lt, nat_le, nat_eq, ◌&&◌, refl, sym, ◌∙◌, ap, arith, append_assoc, length-append}
+use Rattle.std.proofs.Common.{◌≡◌, ◌≤◌, ◌<◌, ℕ, ◌+◌, ◌*◌, ◌^◌, ◌%◌, Bool, true, false, List, [], ◌∷◌, ◌++◌, length, drop, map, None, nat_lt, nat_le, nat_eq, ◌&&◌, refl, sym, ◌∙◌, ap, arith, append_assoc, length-append}
 use Rattle.std.specs.List.{concat, All, list_all}
 use Rattle.std.proofs.lemmas.List.{take_at, drop_at, drop-drop}
 use Rattle.std.proofs.lemmas.List.Elements.{All-head, All-tail}
-use Rattle.hz_file.specs.Layout.{field, part, entries_from, entry_is_wide, entry_place, entry_units, entry_size, text_bytes, storage_at, storage_length}
+use Rattle.hz_file.specs.Layout.{field, entries_from, entry_is_wide, entry_place, entry_units, entry_size, text_bytes, storage_at, storage_length}
 use Rattle.hz_file.specs.Module.{text_of}
-use Rattle.hz_file.specs.Rules.{first_long_text, first_faulty_text, is_text_entry, is_placed, has_its_width, is_ascii_unit, unless}
+use Rattle.hz_file.specs.Rules.{first_long_text, first_faulty_text, is_text_entry, is_placed, has_its_width, is_ascii_unit}
 use Rattle.hz_file.specs.Image.{number, numbers, entry_words, IsShortText}
 use Rattle.hz_file.proofs.Pieces.{length_number}
 use Rattle.byteorder.specs.Numbers.{little_number-reads_back}

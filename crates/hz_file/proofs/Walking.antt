@@ -1,5 +1,5 @@
 -- Steps of a walk over the string entries.
-use Rattle.std.proofs.Common.{◌≡◌, ◌≤◌, ◌<◌, ℕ, zero, suc, ◌+◌, ◌-◌, Bool, true, false, nat_eq, ◌&&◌, List, [], ◌∷◌, Option, Some, None, refl, sym, ◌∙◌, ap, subst, arith, add-one}
+use Rattle.std.proofs.Common.{◌≡◌, ◌≤◌, ◌<◌, ℕ, suc, ◌+◌, ◌-◌, Bool, true, false, nat_eq, ◌&&◌, List, ◌∷◌, Some, None, refl, arith}
 use Rattle.hz_file.specs.Layout.{field, entries_from, entry_place, entry_units, entry_size, storage_length, storage_at}
 use Rattle.hz_file.specs.Rules.{first_long_text, first_faulty_text, is_text_entry, is_placed, unless}
 

@@ -1,5 +1,5 @@
 -- The units of a wide text by their bytes.
-use Rattle.std.proofs.Common.{◌≡◌, ◌≤◌, ◌<◌, ℕ, zero, suc, ◌+◌, ◌-◌, ◌*◌, ◌/◌, Bool, true, false, List, [], ◌∷◌, length, drop, slice_get, Option, Some, None, refl, sym, ◌∙◌, ap, subst, arith}
+use Rattle.std.proofs.Common.{◌≡◌, ◌<◌, ℕ, zero, suc, ◌+◌, ◌*◌, ◌/◌, Bool, true, List, [], ◌∷◌, length, slice_get, Some, refl, ap, arith}
 use Rattle.hz_file.specs.Layout.{field, wide_units, units_of}
 
 pub length_wide : (bytes : List ℕ) → length (wide_units bytes) ≡ length bytes / 2

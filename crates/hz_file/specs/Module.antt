@@ -18,6 +18,7 @@ pub record Module : Type 0 where
   pub functions : List ModuleFunction
   pub texts : List (List ℕ)
 
+-- the kind of a number in a header
 abbrev pub kind_of : ℕ → FunctionKind
 kind_of n =
     if nat_eq n 0 then Script else if nat_eq n 1 then Function else if nat_eq n 2 then Arrow
@@ -27,9 +28,11 @@ kind_of n =
 abbrev pub code_bytes : List ℕ → ℕ → List ℕ
 code_bytes bytes at = part bytes (code_at bytes + code_place bytes at) (code_size bytes at)
 
+-- the same, None in a stub
 abbrev pub code_of : List ℕ → ℕ → Option (List ℕ)
 code_of bytes at = if has_code bytes at then Some (code_bytes bytes at) else None
 
+-- a function by what a view shows of it
 abbrev pub shown_function : FunctionKind → ℕ → ℕ → Option (List ℕ) → ModuleFunction
 shown_function kind length registers code =
     record { kind = kind; length = length; registers = registers; code = code }
@@ -51,7 +54,7 @@ source_bytes bytes = part bytes (source_at bytes) (source_length bytes)
 abbrev pub text_of : List ℕ → ℕ → List ℕ
 text_of bytes entry = units_of (entry_is_wide entry) (text_bytes bytes entry)
 
--- what the bytes of a file hold that breaks no rule
+-- what a file holds that breaks no rule, by its bytes
 unfoldable pub module_of : List ℕ → Module
 module_of bytes = record {
   strict = strict_flag bytes;

@@ -1,6 +1,6 @@
 -- The rules of the file. Each gives the place where it fails, and None where it holds; within a rule
 -- the least place counts. A later rule is asked only where the earlier ones hold.
-use Rattle.std.specs.Prelude.{ℕ, ◌+◌, ◌*◌, ◌-◌, Bool, not, ◌&&◌, List, [], ◌∷◌, take, drop, length, slice_index, nat_eq, nat_le, nat_lt, if◌then◌else◌, Option, Some, None}
+use Rattle.std.specs.Prelude.{ℕ, ◌+◌, ◌-◌, Bool, not, ◌&&◌, List, [], ◌∷◌, take, drop, length, slice_index, nat_eq, nat_le, nat_lt, if◌then◌else◌, Option, Some, None}
 use Rattle.std.specs.List.{list_all, list_any}
 use Rattle.std.specs.Option.{option_or}
 use Rattle.sha1.specs.Sha1.{sha1}
@@ -42,7 +42,8 @@ sections_rule bytes =
     unless (nat_eq (footer_at bytes + 20) (length bytes) && nat_eq (overflow_count bytes) 0
     && nat_eq (handler_count bytes) 0 && nat_eq (large_count bytes) 0) 48
 
--- a header at a place: its code is there, it is not large, its zero is one, and it has no handler
+-- a header at a place: its code is there, it is not large, the field that must be 0 is, and it has no
+-- handler; until more is built a stub, a large header and a handler are faults
 abbrev pub is_header : List ℕ → ℕ → Bool
 is_header bytes at =
     has_code bytes at && not (is_large bytes at) && nat_eq (field 2 bytes (at + 10)) 0

@@ -79,6 +79,21 @@ fn has_units(text: Option<StringView<'_>>, units: &[u16]) -> bool {
 }
 
 #[test]
+fn what_is_written_opens(rt: HostRuntime) -> Result<(), Fail> {
+    let alloc = rt.alloc();
+    let mut texts = Texts::new(alloc);
+    texts.push(Units::from_bytes(alloc, b"a b")?)?;
+    let bytes = write_small(alloc, true, b"f();", &texts, 7, &[1, 0, 0x40, 0])?;
+    let file = File::open(&bytes)?;
+    assert!(rt; file.strict());
+    assert_eq!(rt; file.source(), b"f();".as_slice());
+    assert_eq!(rt; file.function(0).registers, 7);
+    assert!(rt; has_units(file.string(0), &[0x61, 0x20, 0x62]));
+    assert!(rt; file.string(1).is_none());
+    Ok(())
+}
+
+#[test]
 fn a_file_of_another_program_is_shown(rt: HostRuntime) -> Result<(), Fail> {
     assert!(rt; has_magic(&WIDE));
     let file = File::open(&WIDE)?;

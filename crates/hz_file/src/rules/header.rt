@@ -46,6 +46,7 @@ fn nonzero(bytes: &[u8], at: usize) -> Option<usize>
     None
 }
 
+/// Tries the flags' bits but the lowest, the four bytes behind the hash, and the last sixteen.
 pub(crate) fn zero_fault(bytes: &[u8]) -> Option<usize>
     requires { 148 ≤ length bytes.now }
     ensures { result ≡ zero_rule bytes.now }

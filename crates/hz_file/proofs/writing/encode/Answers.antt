@@ -1,4 +1,4 @@
-use Rattle.std.proofs.Common.{◌≡◌, ◌++◌, ◌∙◌, ap, sym, arith}
+use Rattle.std.proofs.Common.{◌≡◌, ◌∙◌, ap}
 use Rattle.sha1.specs.Sha1.{sha1}
 use Rattle.hz_file.specs.Image.{Program, program, body}
 use Rattle.hz_file.proofs.Body.{body_is, image_is}

@@ -1,7 +1,6 @@
-use Rattle.std.proofs.Common.{ap, ◌∙◌, arith, subst, sym, ℕ, List}
+use Rattle.std.proofs.Common.{ap, ◌∙◌, arith}
 use Rattle.std.proofs.lemmas.Result.{IfOk-weaker}
-use Rattle.hz_file.specs.Image.{Program, program, IsSmall, image}
-use Rattle.hz_file.specs.Layout.{HasMagic}
+use Rattle.hz_file.specs.Image.{Program, program, IsSmall}
 use Rattle.hz_file.specs.Module.{module_of}
 use Rattle.hz_file.specs.Opening.{rule}
 use Rattle.hz_file.proofs.Law.{has_magic, breaks_none, holds_written}

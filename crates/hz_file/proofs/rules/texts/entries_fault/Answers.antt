@@ -1,4 +1,4 @@
-use Rattle.std.proofs.Common.{ℕ, ◌+◌, ◌*◌, ◌-◌, ◌≡◌, ◌∙◌, sym, arith}
+use Rattle.std.proofs.Common.{◌+◌, ◌*◌, ◌-◌, ◌∙◌, sym, arith}
 use Rattle.hz_file.specs.Layout.{strings_at, string_count}
 use Rattle.hz_file.proofs.Walking.{long_more, long_stop, long_end}
 use Rattle.hz_file.proofs.rules.texts.entries_fault.Goals as goal
