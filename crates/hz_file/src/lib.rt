@@ -1,9 +1,9 @@
 //! The bytecode file: writes the file of a script, opens a file, and shows what it holds.
 //!
 //! The layer above relies on this. `File::open` answers `Malformed` exactly where a rule of
-//! `specs/Rules.antt` fails, with the first one and its place. The calls of an opened `File` show
-//! `module_of` its bytes (`specs/Module.antt`), and what they show is a part of these bytes at the place
-//! that `specs/Layout.antt` states. `write_small` gives `image` of what it is passed
+//! `specs/Rules.antt` fails, with the first one and its place. Contracts see an opened `File` as its
+//! bytes: its calls show `module_of` them (`specs/Module.antt`), and what they show is a part of the bytes
+//! at the place that `specs/Layout.antt` states. `write_small` gives `image` of what it is passed
 //! (`specs/Image.antt`): a file that opens, and whose module is the one that was written.
 //!
 //! No call of a file or a view takes memory or copies bytes, and no view outlives the bytes.
