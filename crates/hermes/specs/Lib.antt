@@ -1,6 +1,8 @@
 pub mod Compiled
 pub mod Effects
 pub mod FileCode
+pub mod FirstRun
+pub mod FirstSteps
 pub mod FirstTexts
 pub mod Generated
 pub mod Outcomes

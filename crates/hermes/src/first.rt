@@ -4,6 +4,7 @@ pub mod compile;
 pub mod generate;
 pub mod language;
 pub mod reader;
+pub mod run;
 mod state;
 mod steps;
 mod sums;
