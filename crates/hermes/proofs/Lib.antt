@@ -1,6 +1,6 @@
 pub mod Ascii
 pub mod Compiling
-pub mod Ending
+pub mod Finished
 pub mod Sources
 pub mod generating
 pub mod reading

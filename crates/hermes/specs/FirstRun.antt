@@ -28,6 +28,14 @@ RunsTo m old new BadCode = EndsWith m old new run.BadCode
 RunsTo m old new WriteFault = IsCut m old new
 RunsTo m old new Memory = IsCut m old new
 
+-- the answer to a run that ends so and prints these lines
+abbrev pub Agrees : List (List ℕ) → run.End → Option (List ℕ) → Option (List ℕ) → FirstEnd → Type 0
+Agrees lines end old new Done = (end ≡ run.Done) × Appends old new (printed lines)
+Agrees lines end old new (Left reason) = (end ≡ run.LeftFor reason) × Appends old new (printed lines)
+Agrees lines end old new BadCode = (end ≡ run.BadCode) × Appends old new (printed lines)
+Agrees lines end old new WriteFault = AppendsPrefix old new (printed lines)
+Agrees lines end old new Memory = AppendsPrefix old new (printed lines)
+
 -- the same of the run of code that may come to what the rows that there are do not say
 abbrev pub StopsTo : Module → Option (List ℕ) → Option (List ℕ) → Stop → Type 0
 StopsTo m old new (End end) = RunsTo m old new end

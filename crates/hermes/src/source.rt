@@ -1,12 +1,12 @@
 // A source from its bytes to the end of its run, by way of a file in memory.
 
-ghost use Rattle.std.specs.Prelude.{◌≡◌, None};
+ghost use Rattle.std.specs.Prelude.{◌≡◌, ℕ, List, None};
 ghost use Rattle.hz_file.specs.Layout.{HasMagic};
 ghost use Rattle.hz_file.specs.Opening.{rule};
-ghost use Rattle.hz_ops.specs.Runs.{start_of, IsBuilt};
+ghost use Rattle.hz_ops.specs.Runs.{End, start_of, Ends, IsBuilt};
 ghost use Rattle.hermes.specs.Compiled.{Compiles, code_in};
 ghost use Rattle.hermes.specs.Effects.{WriteCause};
-ghost use Rattle.hermes.specs.FirstRun.{RunsTo, Counts};
+ghost use Rattle.hermes.specs.FirstRun.{Agrees, Counts};
 ghost use Rattle.hermes.specs.Outcomes.{Outcome};
 
 use crate::first::compile::compile_first;
@@ -31,7 +31,6 @@ pub fn run_source<K: Sink>(alloc: Global, source: &[u8], out: &mut K) -> Status
 }
 
 // Runs the file that a source was compiled to.
-#[tactic(auto, using(crate::proofs::Ending::run_done, crate::proofs::Ending::run_left, crate::proofs::Ending::run_bad, crate::proofs::Ending::run_cut))]
 fn run_compiled<K: Sink>(alloc: Global, _source: &[u8], bytes: &[u8], out: &mut K) -> Status
     requires { Compiles _source.now bytes.now }
     ensures outcome { Outcome result _source.now (K.got out.old) (K.got out.new) }
@@ -52,7 +51,8 @@ fn run_file<K: Sink>(alloc: Global, bytes: &[u8], out: &mut K) -> FirstEnd
     requires magic { HasMagic bytes.now }
     requires opens { rule bytes.now ≡ None }
     requires built { IsBuilt (code_in bytes.now) (start_of (code_in bytes.now)) }
-    ensures outcome { RunsTo (code_in bytes.now) (K.got out.old) (K.got out.new) result }
+    ensures agrees { (lines : List (List ℕ)) (end : End) → Ends (code_in bytes.now) (start_of (code_in bytes.now)) lines end
+        → Agrees lines end (K.got out.old) (K.got out.new) result }
     ensures cause { Counts (K.count out.old) (K.count out.new) result }
 {
     match File::open(bytes) {

@@ -29,11 +29,13 @@ line_from x xs = by_text (text_of x) where
     by_rest t2 None (Some more) e = cc
     by_rest t2 (Some ts) None e = cc
     by_rest t2 (Some ts) (Some more) e = ap (option_map (λ l. t ++ (32 ∷ l))) e
+
     by_next : (o : Option (List ℕ)) → ((t2 : List ℕ) → option_map (join_with_byte 32) (option_map (λ ts. t2 ∷ ts) (texts_of ys)) ≡ with_front t2 (behind ys))
         → option_map (join_with_byte 32) (option_map (λ ts. t ∷ ts) (option_and_then (λ u. option_map (λ ts. u ∷ ts) (texts_of ys)) o))
         ≡ with_front t (option_and_then (λ u. option_map (λ more. 32 ∷ (u ++ more)) (behind ys)) o)
     by_next None rest = refl
     by_next (Some t2) rest = by_rest t2 (texts_of ys) (behind ys) (rest t2)
+
   by_text : (o : Option (List ℕ)) → option_map (join_with_byte 32) (option_and_then (λ t. option_map (λ ts. t ∷ ts) (texts_of xs)) o) ≡ option_and_then (λ t. with_front t (behind xs)) o
   by_text None = refl
   by_text (Some t) = joined t xs

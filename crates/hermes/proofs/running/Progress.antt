@@ -8,7 +8,7 @@ use Rattle.hz_ops.specs.declared.instr.Instr.{Instr}
 use Rattle.hz_ops.specs.Table.{kinds_of, op_at}
 use Rattle.hz_ops.specs.Activations.{Module, Activation, code_of}
 use Rattle.hz_ops.specs.Step.{cstep, row, found_to, instruction_step}
-use Rattle.hz_ops.specs.Coding.{operands_at, with_operation, front, decode_at, spelling}
+use Rattle.hz_ops.specs.Coding.{instr_of, operands_at, with_operation, front, decode_at, spelling}
 
 some_same : {T : Type 0} {x y : T} → Some x ≡ Some y → x ≡ y
 some_same e = cc
@@ -17,12 +17,13 @@ front_within : (bytes : List ℕ) (r : Instr × ℕ) → front bytes ≡ Some r 
 front_within [] r e = cc
 front_within (b ∷ rest) r e = by_op (op_at (b % 128)) e where
   by_operands : (op : Op) (long : Bool) (x : Option (List Operand × List ℕ))
-      → option_map (λ p. (record { op = op; long = long; args = record { items = p.0 } }, length rest + 1 - length p.1)) x ≡ Some r → r.1 ≤ length (b ∷ rest)
+      → option_map (λ p. (instr_of op long p.0, length rest + 1 - length p.1)) x ≡ Some r → r.1 ≤ length (b ∷ rest)
   by_operands op long None is = cc
   by_operands op long (Some p) is =
-      let made : (record { op = op; long = long; args = record { items = p.0 } }, length rest + 1 - length p.1) ≡ r = some_same is in
+      let made : (instr_of op long p.0, length rest + 1 - length p.1) ≡ r = some_same is in
       let size : length rest + 1 - length p.1 ≡ r.1 = ap (λ q. q.1) made in
       omega arith
+
   by_op : (o : Option Op) → with_operation (nat_le 128 b) (length rest + 1) rest o ≡ Some r → r.1 ≤ length (b ∷ rest)
   by_op None is = cc
   by_op (Some op) is = by_operands op (nat_le 128 b) (operands_at (nat_le 128 b) (kinds_of op) rest) is

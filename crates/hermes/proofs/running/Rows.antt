@@ -100,6 +100,7 @@ pub printed_row : (held new : List Held) (c : CallOperands) (arguments : List He
     → (bytes ≡ printed (next_system [] (called place next held c)).lines) × ((next_system [] (called place next held c)).state ≡ Running (activation next new))
 printed_row held new c arguments line bytes place next calls made spelled put =
     let a : Activation = activation place held in
-    let e : called place next held c ≡ Does (Print line) (written next c.result content.Undefined a) = calls.1 place next ∙ ap (line_to next a c.result) made in
-    (spelled ∙ sym (append-nil (line_bytes line)) ∙ sym (ap (λ n. printed (next_system [] n).lines) e),
-        ap (λ n. (next_system [] n).state) e ∙ ap (λ rs. Running (record { function = 0; place = next; registers = rs })) (sym (map-set content_of held c.result Undefined) ∙ ap (map content_of) (sym put)))
+    let e : called place next held c ≡ Does (Print line) (written next c.result content.Undefined a) = calls.1 place next ∙ ap (line_to next a c.result) made in (
+      spelled ∙ sym (append-nil (line_bytes line)) ∙ sym (ap (λ n. printed (next_system [] n).lines) e),
+      ap (λ n. (next_system [] n).state) e ∙ ap (λ rs. Running (record { function = 0; place = next; registers = rs })) (sym (map-set content_of held c.result Undefined) ∙ ap (map content_of) (sym put)),
+    )

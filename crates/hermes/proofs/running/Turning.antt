@@ -8,6 +8,7 @@ use Rattle.hz_ops.specs.Activations.{Module, Activation, entered, Act, Print, Re
 use Rattle.hz_ops.specs.Step.{cstep}
 use Rattle.hz_ops.specs.Runs as run
 use Rattle.hz_ops.specs.Runs.{State, System, Running, Ended, Done, LeftFor, BadCode, next_system, system_step, after, start_of, Ends, IsBuilt}
+use Rattle.hz_ops.proofs.Running.{after_more}
 use Rattle.hermes.specs.declared.first.run.held.Held.{Held}
 use Rattle.hermes.specs.declared.first.run.stop.FirstEnd.TheVariants as stop
 use Rattle.hermes.specs.declared.first.run.stop.Stop.{Stop}
@@ -18,10 +19,6 @@ use Rattle.hermes.specs.FirstRun.{EndsWith, IsCut, Reached, Turned, StopsTo}
 
 -- ---- steps
 
-after_more : (m : Module) (n k : ℕ) (s : System) → after m (n + k) s ≡ after m k (after m n s)
-after_more m zero k s = ap (λ j. after m j s) (zero-add k)
-after_more m (suc n) k s = ap (λ j. after m j s) (suc-add n k) ∙ after_more m n k (system_step m s)
-
 abbrev system : List (List ℕ) → State → System
 system lines state = record { lines = lines; state = state }
 
@@ -30,12 +27,14 @@ on_lines : (lines : List (List ℕ)) (n : Next) → next_system lines n ≡ reco
 on_lines lines n = by_next n where
   kept : (state : State) → system lines state ≡ system (lines ++ []) state
   kept state = ap (λ ls. system ls state) (sym (append-nil lines))
+
   by_act : (a : Activation) (act : Act) → next_system lines (Does act a) ≡ record { lines = lines ++ (next_system [] (Does act a)).lines; state = (next_system [] (Does act a)).state }
   by_act a (Print line) = refl
   by_act a (Return x) = kept (Ended Done)
   by_act a (Leave reason) = kept (Ended (LeftFor reason))
   by_act a Bad = kept (Ended BadCode)
   by_act a Beyond = kept run.Unbuilt
+
   by_next : (k : Next) → next_system lines k ≡ record { lines = lines ++ (next_system [] k).lines; state = (next_system [] k).state }
   by_next (Goes a) = kept (Running a)
   by_next (Does act a) = by_act a act
@@ -56,21 +55,22 @@ appends_told : (a b c : Option (List ℕ)) (lines more : List (List ℕ)) → Ap
 appends_told a b c lines more p q = subst (λ bytes. Appends a c bytes) (sym (printed_more lines more)) (appends_more a b c (printed lines) (printed more) p q)
 
 appends_front : (a b c : Option (List ℕ)) (lines more : List (List ℕ)) → Appends a b (printed lines) → AppendsPrefix b c (printed more) → AppendsPrefix a c (printed (lines ++ more))
-appends_front a b c lines more p q =
-    (length (printed lines) + q.0,
-        subst (λ bytes. Appends a c bytes)
-        (sym (ap (take (length (printed lines) + q.0)) (printed_more lines more) ∙ take-append-add (printed lines) (printed more) q.0))
-        (appends_more a b c (printed lines) (take q.0 (printed more)) p q.1))
+appends_front a b c lines more p q = (
+  length (printed lines) + q.0,
+  subst (λ bytes. Appends a c bytes)
+      (sym (ap (take (length (printed lines) + q.0)) (printed_more lines more) ∙ take-append-add (printed lines) (printed more) q.0))
+      (appends_more a b c (printed lines) (take q.0 (printed more)) p q.1),
+)
 
 -- ---- where the run stands
 
 pub begun : (m : Module) (held : List Held) (out : Option (List ℕ)) → map content_of held ≡ (entered m 0).registers → Reached m 0 held out out
 begun m held out e = record {
-    steps = 0;
-    lines = [];
-    here = ap (λ rs. record { lines = []; state = Running (record { function = 0; place = 0; registers = rs }) }) (sym e);
-    told = nothing out
-  } where
+  steps = 0;
+  lines = [];
+  here = ap (λ rs. record { lines = []; state = Running (record { function = 0; place = 0; registers = rs }) }) (sym e);
+  told = nothing out;
+} where
   nothing : (o : Option (List ℕ)) → Appends o o []
   nothing None = tt
   nothing (Some x) = sym (append-nil x)
@@ -86,19 +86,22 @@ one_on m place held old now r = after_more m r.steps 1 (start_of m) ∙ ap (syst
 pub goes_on : (m : Module) (place next : ℕ) (held held2 : List Held) (old now new : Option (List ℕ)) → Reached m place held old now
     → (step_at m place held).state ≡ Running (activation next held2) → Appends now new (printed (step_at m place held).lines) → Reached m next held2 old new
 goes_on m place next held held2 old now new r state got = record {
-    steps = r.steps + 1;
-    lines = r.lines ++ (step_at m place held).lines;
-    here = one_on m place held old now r ∙ ap (λ s. record { lines = r.lines ++ (step_at m place held).lines; state = s }) state;
-    told = appends_told old now new r.lines (step_at m place held).lines r.told got
-  }
+  steps = r.steps + 1;
+  lines = r.lines ++ (step_at m place held).lines;
+  here = one_on m place held old now r ∙ ap (λ s. record { lines = r.lines ++ (step_at m place held).lines; state = s }) state;
+  told = appends_told old now new r.lines (step_at m place held).lines r.told got;
+}
 
 pub ends_here : (m : Module) (place : ℕ) (held : List Held) (old now new : Option (List ℕ)) (end : run.End) → Reached m place held old now
     → step_at m place held ≡ record { lines = []; state = Ended end } → Appends now new [] → EndsWith m old new end
-ends_here m place held old now new end r is got =
-    (r.lines ++ [], record {
-        steps = r.steps + 1;
-        ended = one_on m place held old now r ∙ ap (λ s. record { lines = r.lines ++ s.lines; state = s.state }) is
-    }, appends_told old now new r.lines [] r.told got)
+ends_here m place held old now new end r is got = (
+  r.lines ++ [],
+  record {
+    steps = r.steps + 1;
+    ended = one_on m place held old now r ∙ ap (λ s. record { lines = r.lines ++ s.lines; state = s.state }) is;
+  },
+  appends_told old now new r.lines [] r.told got,
+)
 
 pub cut_here : (m : Module) (place : ℕ) (held : List Held) (old now new : Option (List ℕ)) → Reached m place held old now
     → AppendsPrefix now new (printed (step_at m place held).lines) → IsCut m old new

@@ -1,11 +1,11 @@
 // The run of a file's code.
-ghost use Rattle.std.specs.Prelude.{◌≡◌, map};
+ghost use Rattle.std.specs.Prelude.{◌≡◌, ℕ, List, map};
 ghost use Rattle.hz_file.specs.Module.{module_of};
 ghost use Rattle.hz_ops.specs.Activations.{code_of, entered};
-ghost use Rattle.hz_ops.specs.Runs.{start_of, IsBuilt};
+ghost use Rattle.hz_ops.specs.Runs.{End, Ends, start_of, IsBuilt};
 ghost use Rattle.hermes.specs.FileCode.{code_module};
 ghost use Rattle.hermes.specs.FirstSteps.{content_of};
-ghost use Rattle.hermes.specs.FirstRun.{RunsTo, Counts, StopsTo, CountsStop};
+ghost use Rattle.hermes.specs.FirstRun.{Agrees, RunsTo, Counts, StopsTo, CountsStop};
 
 mod code;
 mod held;
@@ -14,14 +14,15 @@ mod operands;
 mod rows;
 mod step;
 mod stop;
+#[cfg(test)]
+mod tests;
 mod turn;
-
-pub use stop::FirstEnd;
 
 use held::Held;
 use hz_file::File;
 use hz_io::Sink;
 use std::alloc::Global;
+pub use stop::FirstEnd;
 use stop::Stop;
 use turn::turn;
 
@@ -36,6 +37,9 @@ pub fn run_first<K: Sink>(alloc: Global, file: &File<'_>, out: &mut K) -> FirstE
     requires built { IsBuilt (code_module (module_of file.now)) (start_of (code_module (module_of file.now))) }
     ensures outcome { RunsTo (code_module (module_of file.now)) (K.got out.old) (K.got out.new) result }
     ensures cause { Counts (K.count out.old) (K.count out.new) result }
+
+    // What is known of the end of the code holds for the answer.
+    ensures agrees { (lines : List (List ℕ)) (end : End) → Ends (code_module (module_of file.now)) (start_of (code_module (module_of file.now))) lines end → Agrees lines end (K.got out.old) (K.got out.new) result }
 {
     let (code, count) = code::script(file);
     match code::entered(alloc, count) {

@@ -51,7 +51,11 @@ pub(crate) fn three_registers(operands: &[Operand]) -> Result<(u64, u64, u64), S
     ensures { AreThreeRegisters operands.now result }
 {
     match operands {
-        [Operand::Register(r), Operand::Register(x), Operand::Register(y)] => Ok((*r, *x, *y)),
+        [
+            Operand::Register(r),
+            Operand::Register(x),
+            Operand::Register(y),
+        ] => Ok((*r, *x, *y)),
         _ => Err(Stop::End(FirstEnd::BadCode)),
     }
 }

@@ -9,18 +9,20 @@ ghost use Rattle.hermes.specs.FileCode.{code_module};
 ghost use Rattle.hermes.specs.FirstSteps.{activation, IsStep, Put, HasNumbers, PrintsLine, called, CallsPrint, Stops, content_of};
 
 use crate::first::run::held::Held;
+use crate::first::run::line::{line_bytes, line_of};
 use crate::first::run::operands::CallOperands;
 use crate::first::run::stop::{FirstEnd, Stop};
-use crate::first::run::line::{line_bytes, line_of};
 use hz_file::{File, StringView};
-use hz_value::{Left, Safe, add, mul, sub};
+use hz_value::{Left, Safe};
 use std::alloc::Global;
 
 /// What a register holds; one that is not there is bad code.
 fn held<'r, 'a>(registers: &'r [Held<'a>], r: u64) -> Result<&'r Held<'a>, Stop>
     ensures { MatchResult result (λ h. slice_get registers.entry.now r ≡ Some h.now) (λ stop. (slice_get registers.entry.now r ≡ None) × (stop ≡ Stop.End FirstEnd.BadCode)) }
 {
-    registers.get(r as usize).ok_or(Stop::End(FirstEnd::BadCode))
+    registers
+        .get(r as usize)
+        .ok_or(Stop::End(FirstEnd::BadCode))
 }
 
 /// Puts the value into a register; one that is not there is bad code.
@@ -50,7 +52,12 @@ pub(crate) fn load_int(registers: &mut [Held<'_>], r: u64, integer: i64) -> Resu
 }
 
 /// LoadString: the text has to be there.
-pub(crate) fn load_string<'a>(file: &File<'a>, registers: &mut [Held<'a>], r: u64, id: u64) -> Result<(), Stop>
+pub(crate) fn load_string<'a>(
+    file: &File<'a>,
+    registers: &mut [Held<'a>],
+    r: u64,
+    id: u64,
+) -> Result<(), Stop>
     ensures { (place next : ℕ) → IsStep (row.load_string (code_module (module_of file.now)) next (activation place registers.old) r id) result (activation next registers.new) }
 {
     let text = file.string(id).ok_or(Stop::End(FirstEnd::BadCode))?;
@@ -74,7 +81,12 @@ fn is_print(name: &StringView<'_>) -> bool
 }
 
 /// LoadGlobal: the text has to be there, and names `print`.
-pub(crate) fn load_global<'a>(file: &File<'a>, registers: &mut [Held<'a>], r: u64, id: u64) -> Result<(), Stop>
+pub(crate) fn load_global<'a>(
+    file: &File<'a>,
+    registers: &mut [Held<'a>],
+    r: u64,
+    id: u64,
+) -> Result<(), Stop>
     ensures { (place next : ℕ) → IsStep (row.load_global (code_module (module_of file.now)) next (activation place registers.old) r id) result (activation next registers.new) }
 {
     held(registers, r)?;
@@ -106,27 +118,27 @@ fn put_number(registers: &mut [Held<'_>], r: u64, number: Option<Safe>) -> Resul
 }
 
 /// Add.
-pub(crate) fn add_row(registers: &mut [Held<'_>], r: u64, x: u64, y: u64) -> Result<(), Stop>
+pub(crate) fn add(registers: &mut [Held<'_>], r: u64, x: u64, y: u64) -> Result<(), Stop>
     ensures { (place next : ℕ) → IsStep (row.arithmetic sum_of next (activation place registers.old) r x y) result (activation next registers.new) }
 {
     let (a, b) = operands(registers, r, x, y)?;
-    put_number(registers, r, add(a, b))
+    put_number(registers, r, hz_value::add(a, b))
 }
 
 /// Sub.
-pub(crate) fn sub_row(registers: &mut [Held<'_>], r: u64, x: u64, y: u64) -> Result<(), Stop>
+pub(crate) fn sub(registers: &mut [Held<'_>], r: u64, x: u64, y: u64) -> Result<(), Stop>
     ensures { (place next : ℕ) → IsStep (row.arithmetic difference_of next (activation place registers.old) r x y) result (activation next registers.new) }
 {
     let (a, b) = operands(registers, r, x, y)?;
-    put_number(registers, r, sub(a, b))
+    put_number(registers, r, hz_value::sub(a, b))
 }
 
 /// Mul.
-pub(crate) fn mul_row(registers: &mut [Held<'_>], r: u64, x: u64, y: u64) -> Result<(), Stop>
+pub(crate) fn mul(registers: &mut [Held<'_>], r: u64, x: u64, y: u64) -> Result<(), Stop>
     ensures { (place next : ℕ) → IsStep (row.arithmetic product_of next (activation place registers.old) r x y) result (activation next registers.new) }
 {
     let (a, b) = operands(registers, r, x, y)?;
-    put_number(registers, r, mul(a, b))
+    put_number(registers, r, hz_value::mul(a, b))
 }
 
 /// Return.
@@ -166,7 +178,11 @@ fn arguments<'r, 'a>(registers: &'r [Held<'a>], call: CallOperands) -> Result<&'
 }
 
 /// Call: gives the bytes of the line that it prints.
-pub(crate) fn call(alloc: Global, registers: &mut [Held<'_>], call: CallOperands) -> Result<String, Stop>
+pub(crate) fn call(
+    alloc: Global,
+    registers: &mut [Held<'_>],
+    call: CallOperands,
+) -> Result<String, Stop>
     ensures { (place next : ℕ) → PrintsLine (called place next registers.old call) result (activation next registers.new) }
 {
     let line = line_of(alloc, arguments(registers, call)?)?;

@@ -8,7 +8,9 @@ ghost use Rattle.hermes.specs.FileCode.{code_module};
 ghost use Rattle.hermes.specs.FirstSteps.{activation, IsStep, PrintsLine, Steps, StepsTo};
 
 use crate::first::run::held::Held;
-use crate::first::run::operands::{call_operands, register, register_and_integer, register_and_text, three_registers};
+use crate::first::run::operands::{
+    call_operands, register, register_and_integer, register_and_text, three_registers,
+};
 use crate::first::run::rows;
 use crate::first::run::stop::{FirstEnd, Stop};
 use hz_file::File;
@@ -60,15 +62,15 @@ fn row<'a>(
         }
         Op::Add => {
             let (r, x, y) = three_registers(operands)?;
-            silent(rows::add_row(registers, r, x, y))
+            silent(rows::add(registers, r, x, y))
         }
         Op::Sub => {
             let (r, x, y) = three_registers(operands)?;
-            silent(rows::sub_row(registers, r, x, y))
+            silent(rows::sub(registers, r, x, y))
         }
         Op::Mul => {
             let (r, x, y) = three_registers(operands)?;
-            silent(rows::mul_row(registers, r, x, y))
+            silent(rows::mul(registers, r, x, y))
         }
         Op::Return => {
             let r = register(operands)?;
@@ -102,6 +104,15 @@ pub(crate) fn step<'a>(
     ensures progress { IfOk result (λ step. (place < step.next) × (step.next ≤ length code.now)) }
 {
     let (instruction, length) = decode(code, place).ok_or(Stop::End(FirstEnd::BadCode))?;
-    let line = row(alloc, file, registers, instruction.op, instruction.args.as_slice())?;
-    Ok(Stepped { next: place + length, line })
+    let line = row(
+        alloc,
+        file,
+        registers,
+        instruction.op,
+        instruction.args.as_slice(),
+    )?;
+    Ok(Stepped {
+        next: place + length,
+        line,
+    })
 }

@@ -7,10 +7,11 @@ use Rattle.hermes.proofs.first.run.run_code.Goals as goal
 pub loop-next-preserved : goal.loop-next-preserved
 loop-next-preserved g c =
     let sink = g.K.Sink in
-    let m = code_module (module_of c.args.file.now) in
-    (goes_on m c.loop-next.place c.in-Ok.next c.loop-next.registers c.turn.new.registers (sink.got c.args.out.now) (sink.got c.loop-next.out) (sink.got c.turn.new.out)
-        c.loop-next.invariant.0 c.in-Ok.ensures.turned.0 c.in-Ok.ensures.turned.1,
-        c.in-Ok.ensures.cause ∙ c.loop-next.invariant.1)
+    let m = code_module (module_of c.args.file.now) in (
+      goes_on m c.loop-next.place c.in-Ok.next c.loop-next.registers c.turn.new.registers (sink.got c.args.out.now) (sink.got c.loop-next.out) (sink.got c.turn.new.out)
+          c.loop-next.invariant.0 c.in-Ok.ensures.turned.0 c.in-Ok.ensures.turned.1,
+      c.in-Ok.ensures.cause ∙ c.loop-next.invariant.1,
+    )
 
 pub returns-in-Err-clause-outcome : goal.returns-in-Err-clause-outcome
 returns-in-Err-clause-outcome g c =

@@ -20,5 +20,5 @@ returns-in_ok-r-in-LoadInt c = λ place next.
     let e : row.row m next a c.args.operands.now c.args.op ≡ n = ap (λ o. row.row m next a c.args.operands.now o) c.in-LoadInt.is ∙ ap (λ os. row.at_register_int os a (row.load_int next a)) is in
     let fits : FitsSigned w64 c.in_ok-r-in-LoadInt.integer = search rules in
     let whole : to_z w64 (of_z w64 c.in_ok-r-in-LoadInt.integer) ≡ c.in_ok-r-in-LoadInt.integer = to_z-of_z w64 c.in_ok-r-in-LoadInt.integer fits in
-    subst (λ k. Steps (next_system [] k) c.silent-in-LoadInt.result (activation next c.load_int.new.registers)) (sym e) (c.silent-in-LoadInt.ensures n (activation next c.load_int.new.registers) 
+    subst (λ k. Steps (next_system [] k) c.silent-in-LoadInt.result (activation next c.load_int.new.registers)) (sym e) (c.silent-in-LoadInt.ensures n (activation next c.load_int.new.registers)
     (subst (λ z. IsStep (row.load_int next a c.in_ok-r-in-LoadInt.r z) c.load_int.result (activation next c.load_int.new.registers)) whole (c.load_int.ensures place next)))
