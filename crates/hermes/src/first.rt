@@ -8,6 +8,5 @@ pub mod run;
 mod state;
 mod steps;
 mod sums;
-
 #[cfg(test)]
 mod tests;

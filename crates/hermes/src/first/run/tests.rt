@@ -36,7 +36,7 @@ fn run(alloc: Global, texts: &Texts, code: &[u8], out: &mut MemSink) -> Result<F
 
 // `print(1 + 2 * 3)`
 #[test]
-#[tactic(auto, using(crate::proofs::running::Worked::sum_is_built))]
+#[tactic(auto, using(crate::proofs::Worked::sum_is_built))]
 fn a_sum_is_printed(rt: HostRuntime) -> Result<(), Fail> {
     let mut out = MemSink::new(rt.alloc(), 100)?;
     let texts = two_texts(rt.alloc())?;
@@ -51,7 +51,7 @@ fn a_sum_is_printed(rt: HostRuntime) -> Result<(), Fail> {
 
 // `print(1)`, and then `9007199254740991 + 1`
 #[test]
-#[tactic(auto, using(crate::proofs::running::Worked::unsafe_is_built))]
+#[tactic(auto, using(crate::proofs::Worked::unsafe_is_built))]
 fn an_unsafe_sum_leaves(rt: HostRuntime) -> Result<(), Fail> {
     let mut out = MemSink::new(rt.alloc(), 100)?;
     let texts = two_texts(rt.alloc())?;
@@ -69,7 +69,7 @@ fn an_unsafe_sum_leaves(rt: HostRuntime) -> Result<(), Fail> {
 
 // register 6, of which there is none
 #[test]
-#[tactic(auto, using(crate::proofs::running::Worked::missing_is_built))]
+#[tactic(auto, using(crate::proofs::Worked::missing_is_built))]
 fn a_missing_register_is_bad_code(rt: HostRuntime) -> Result<(), Fail> {
     let mut out = MemSink::new(rt.alloc(), 100)?;
     let texts = two_texts(rt.alloc())?;
@@ -82,7 +82,7 @@ fn a_missing_register_is_bad_code(rt: HostRuntime) -> Result<(), Fail> {
 
 // `print("a b", -4)` and `print()`, whose line cannot be sent
 #[test]
-#[tactic(auto, using(crate::proofs::running::Worked::two_lines_are_built))]
+#[tactic(auto, using(crate::proofs::Worked::two_lines_are_built))]
 fn a_failed_write_ends_the_run(rt: HostRuntime) -> Result<(), Fail> {
     let mut out = MemSink::new(rt.alloc(), 100)?;
     out.fail_at(1)?;
