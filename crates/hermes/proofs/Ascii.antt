@@ -1,5 +1,5 @@
 -- The bytes of a first text are ASCII.
-use Rattle.std.proofs.Common.{◌≡◌, ℕ, zero, suc, nat_lt, ◌+◌, ◌<◌, ◌≤◌, ◌^◌, Bool, true, false, ◌&&◌, List, [], ◌∷◌, ◌++◌, length, get_or, flat_map, codes, decimal, refl, sym, ap, subst, arith, All}
+use Rattle.std.proofs.Common.{◌≡◌, ℕ, zero, suc, nat_lt, ◌<◌, Bool, true, false, ◌&&◌, List, [], ◌∷◌, ◌++◌, flat_map, codes, decimal, refl, sym, subst, arith, All}
 use Rattle.std.specs.Str.{IsAscii}
 use Rattle.std.specs.List.{list_all}
 use Rattle.std.proofs.lemmas.Str.{IsAscii-append}
@@ -9,10 +9,9 @@ use Rattle.hermes.specs.declared.first.language.Sign.{Sign}
 use Rattle.hermes.specs.declared.first.language.Sign.TheVariants.{Plus, Minus}
 use Rattle.hermes.specs.declared.first.language.Term.{Term}
 use Rattle.hermes.specs.declared.first.language.Addend.{Addend}
-use Rattle.hermes.specs.declared.first.language.Sum.{Sum}
 use Rattle.hermes.specs.declared.first.language.Argument.{Argument}
 use Rattle.hermes.specs.declared.first.language.Argument.TheVariants as argument
-use Rattle.hermes.specs.FirstTexts.{directive, sign_byte, factor_tokens, term_tokens, addend_tokens, sum_tokens, quoted, argument_tokens, call_tokens, first_tokens, is_blank, Spaced, is_number, is_text_byte, is_text, is_term, is_addend, is_sum, is_argument, IsFirst}
+use Rattle.hermes.specs.FirstTexts.{directive, sign_byte, factor_tokens, term_tokens, addend_tokens, argument_tokens, call_tokens, first_tokens, is_blank, Spaced, is_number, is_text_byte, is_term, is_addend, is_argument, IsFirst}
 
 abbrev pub AreAscii : List (List ℕ) → Type 0
 AreAscii [] = Unit {0}

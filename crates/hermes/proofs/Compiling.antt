@@ -1,5 +1,5 @@
 -- A file that was written of the reader's calls and the generator's code.
-use Rattle.std.proofs.Common.{◌≡◌, ℕ, List, Option, None, false, refl, sym, ap, subst}
+use Rattle.std.proofs.Common.{◌≡◌, ℕ, List, None, false, sym, ap, subst}
 use Rattle.hz_file.specs.Image.{program, script_module}
 use Rattle.hz_file.specs.Layout.{HasMagic}
 use Rattle.hz_file.specs.Module as file

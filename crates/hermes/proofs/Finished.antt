@@ -3,12 +3,12 @@ use Rattle.std.proofs.Common.{◌≡◌, ◌∙◌, ℕ, List, [], ◌∷◌, Op
 use Rattle.std.specs.Option.{option_map_or}
 use Rattle.hz_value.specs.declared.leaving.Left.{Left}
 use Rattle.hz_value.specs.declared.leaving.Left.TheVariants.{NotSafe}
-use Rattle.hz_ops.specs.Runs.{End, Done, LeftFor, BadCode, start_of, Ends}
+use Rattle.hz_ops.specs.Runs.{End, LeftFor, BadCode, start_of, Ends}
 use Rattle.hermes.specs.declared.first.language.Argument.{Argument}
 use Rattle.hermes.specs.declared.status.Status.TheVariants as status
 use Rattle.hermes.specs.declared.first.run.stop.FirstEnd.{FirstEnd}
 use Rattle.hermes.specs.declared.first.run.stop.FirstEnd.TheVariants as first_end
-use Rattle.hermes.specs.Compiled.{IsCompiled, Compiles, code_in}
+use Rattle.hermes.specs.Compiled.{Compiles, code_in}
 use Rattle.hermes.specs.FirstRun.{Agrees}
 use Rattle.hermes.specs.Outcomes.{Outcome, PrintedFront}
 use Rattle.hermes.specs.Saying.{lines_of, end_of, line_of_call}

@@ -1,5 +1,5 @@
 -- A source of which no more was read than shows that it is too long.
-use Rattle.std.proofs.Common.{◌≡◌, ◌∙◌, ◌⊎◌, ◌≤◌, ◌<◌, ℕ, ◌+◌, List, length, take, Option, Some, None, MatchBool, nat_lt, Bool, true, false, refl, sym, ap, subst, inl, inr, arith}
+use Rattle.std.proofs.Common.{◌≡◌, ◌∙◌, ◌<◌, ℕ, List, length, take, Option, Some, None, MatchBool, nat_lt, Bool, true, false, refl, sym, ap, subst, inl, inr, arith}
 use Rattle.std.proofs.lemmas.List.{take_all, length-take}
 use Rattle.std.specs.Io.KnownBytes.{Keeps}
 use Rattle.hz_io.specs.Contents.{Contents, ReadsFile}
@@ -8,7 +8,7 @@ use Rattle.hermes.specs.declared.status.Refusal.TheVariants.{NotYet}
 use Rattle.hermes.specs.declared.status.Status.{Status}
 use Rattle.hermes.specs.declared.status.Status.TheVariants as status
 use Rattle.hermes.specs.FirstTexts.{IsAccepted, IsRefused, IsStuck}
-use Rattle.hermes.specs.Outcomes.{Printed, PrintedFront, Outcome, OutcomeAt, OutcomeOf}
+use Rattle.hermes.specs.Outcomes.{Outcome, OutcomeAt, OutcomeOf}
 
 -- a source of which fewer than n bytes come is those bytes
 pub all_of : (n : ℕ) (s : List ℕ) → length (take n s) < n → take n s ≡ s

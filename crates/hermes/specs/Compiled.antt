@@ -4,7 +4,7 @@ use Rattle.hz_file.specs.Layout.{HasMagic}
 use Rattle.hz_file.specs.Module.{module_of}
 use Rattle.hz_file.specs.Opening.{rule}
 use Rattle.hz_ops.specs.Activations as code
-use Rattle.hz_ops.specs.Runs.{System, start_of, Ends, IsBuilt}
+use Rattle.hz_ops.specs.Runs.{start_of, Ends, IsBuilt}
 use Rattle.hermes.specs.declared.first.language.Argument.{Argument}
 use Rattle.hermes.specs.declared.first.language.FirstFault.{FirstFault}
 use Rattle.hermes.specs.declared.first.language.FirstFault.TheVariants as fault

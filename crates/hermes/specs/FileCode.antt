@@ -1,5 +1,5 @@
 -- A file's code as a module of code.
-use Rattle.std.specs.Prelude.{ℕ, List, [], map}
+use Rattle.std.specs.Prelude.{[], map}
 use Rattle.std.specs.Option.{unwrap_or}
 use Rattle.hz_file.specs.Module as file
 use Rattle.hz_ops.specs.Activations as code

@@ -1,5 +1,5 @@
 -- The run of a file's code: what its answer says of the meaning of code, and what out got.
-use Rattle.std.specs.Prelude.{◌≡◌, ℕ, ◌≤◌, List, [], length, Option, Result, Ok, Err}
+use Rattle.std.specs.Prelude.{◌≡◌, ℕ, ◌≤◌, List, [], Option, Result, Ok, Err}
 use Rattle.std.specs.Io.KnownBytes.{Appends}
 use Rattle.hz_io.specs.Causes.{Rose}
 use Rattle.hz_ops.specs.Activations.{Module}
@@ -49,12 +49,14 @@ Counts before now BadCode = now ≡ before
 Counts before now WriteFault = Rose before now × (before ≤ now)
 Counts before now Memory = now ≡ before
 
+-- the same where the run may come to what the rows that there are do not say
 abbrev pub CountsStop : ℕ → ℕ → Stop → Type 0
 CountsStop before now (End end) = Counts before now end
 CountsStop before now Unbuilt = Unit {0}
 
 -- ---- one instruction whose line goes out
 
+-- the answer to the step of an instruction that gives this system, where the registers are then these
 abbrev pub Turned : run.System → Result ℕ Stop → List Held → Option (List ℕ) → Option (List ℕ) → Type 0
 Turned system (Ok next) held old new = (system.state ≡ run.Running (activation next held)) × Appends old new (printed system.lines)
 Turned system (Err (End WriteFault)) held old new = AppendsPrefix old new (printed system.lines)
@@ -64,6 +66,7 @@ Turned system (Err (End (Left reason))) held old new = Stopped system (End (Left
 Turned system (Err (End BadCode)) held old new = Stopped system (End BadCode) × Appends old new []
 Turned system (Err Unbuilt) held old new = Stopped system Unbuilt
 
+-- the count of faults behind that step
 abbrev pub CountsTurn : ℕ → ℕ → Result ℕ Stop → Type 0
 CountsTurn before now (Ok next) = now ≡ before
 CountsTurn before now (Err stop) = CountsStop before now stop

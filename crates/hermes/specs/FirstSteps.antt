@@ -15,6 +15,8 @@ use Rattle.hermes.specs.declared.first.run.step.Stepped.{Stepped}
 use Rattle.hermes.specs.declared.first.run.stop.Stop.{Stop}
 use Rattle.hermes.specs.declared.first.run.stop.Stop.TheVariants.{End, Unbuilt}
 
+-- A step is stated by the system that it gives where no line was printed before.
+
 -- what a register holds
 abbrev pub content_of : Held → content.Content
 content_of Undefined = content.Undefined
@@ -111,28 +113,34 @@ Steps system (Err stop) a = Stopped system stop
 
 -- ---- operands of a shape, or what the row does with others
 
+-- one register
 abbrev pub IsRegister : List Operand → Result ℕ Stop → Type 0
 IsRegister os (Ok r) = os ≡ operand.Register r ∷ []
 IsRegister os (Err stop) = (stop ≡ End BadCode) × ((a : Activation) (go : ℕ → Next) → row.at_register os a go ≡ Does Bad a)
 
+-- a register and an integer
 abbrev pub IsRegisterInt : List Operand → Result (ℕ × ℤ) Stop → Type 0
 IsRegisterInt os (Ok p) = os ≡ operand.Register p.0 ∷ operand.Int p.1 ∷ []
 IsRegisterInt os (Err stop) = (stop ≡ End BadCode) × ((a : Activation) (go : ℕ → ℤ → Next) → row.at_register_int os a go ≡ Does Bad a)
 
+-- a register and the id of a text
 abbrev pub IsRegisterText : List Operand → Result (ℕ × ℕ) Stop → Type 0
 IsRegisterText os (Ok p) = os ≡ operand.Register p.0 ∷ operand.Text p.1 ∷ []
 IsRegisterText os (Err stop) = (stop ≡ End BadCode) × ((a : Activation) (go : ℕ → ℕ → Next) → row.at_register_text os a go ≡ Does Bad a)
 
+-- three registers
 abbrev pub AreThreeRegisters : List Operand → Result (ℕ × ℕ × ℕ) Stop → Type 0
 AreThreeRegisters os (Ok p) = os ≡ operand.Register p.0 ∷ operand.Register p.1 ∷ operand.Register p.2 ∷ []
 AreThreeRegisters os (Err stop) = (stop ≡ End BadCode) × ((a : Activation) (go : ℕ → ℕ → ℕ → Next) → row.at_three_registers os a go ≡ Does Bad a)
 
+-- the operands of a call
 abbrev pub AreCallOperands : List Operand → Result CallOperands Stop → Type 0
 AreCallOperands os (Ok c) = os ≡ operand.Register c.result ∷ operand.Register c.callee ∷ operand.Register c.this ∷ operand.Register c.first ∷ operand.Count c.count ∷ []
 AreCallOperands os (Err stop) = (stop ≡ End BadCode) × ((a : Activation) (go : ℕ → ℕ → ℕ → ℕ → ℕ → Next) → row.at_call os a go ≡ Does Bad a)
 
--- ---- the step at a place of the code, and what went out
+-- ---- the step at a place of the code
 
+-- the answer to a step that gives this system, where the registers are then these
 abbrev pub StepsTo : run.System → Result Stepped Stop → List Held → Type 0
 StepsTo system (Ok step) held = Steps system (Ok step.line) (activation step.next held)
 StepsTo system (Err stop) held = Stopped system stop

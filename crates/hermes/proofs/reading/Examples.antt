@@ -1,5 +1,5 @@
 -- The definitions at small texts.
-use Rattle.std.proofs.Common.{◌≡◌, ℕ, [], ◌∷◌, codes, refl, Some, None}
+use Rattle.std.proofs.Common.{◌≡◌, ℕ, [], ◌∷◌, codes, refl}
 use Rattle.std.specs.Fmt.{digits}
 use Rattle.hz_value.specs.declared.leaving.Left.TheVariants.{NotSafe}
 use Rattle.hermes.specs.FirstTexts.{directive, first_tokens}

@@ -1,5 +1,5 @@
 -- A run of code that ends: it has one end, and what a cut run gave out is a front of all that it prints.
-use Rattle.std.proofs.Common.{◌≡◌, ℕ, zero, suc, ◌+◌, ◌≤◌, min, List, [], ◌∷◌, ◌++◌, length, take, Option, None, Some, refl, sym, ap, subst, ◌∙◌, append_assoc, append-nil, add_comm, arith}
+use Rattle.std.proofs.Common.{◌≡◌, ℕ, ◌≤◌, min, List, ◌++◌, length, Option, sym, ap, subst, ◌∙◌, add_comm, arith}
 use Rattle.std.proofs.lemmas.List.{take_min, take-append-le}
 use Rattle.std.specs.Io.KnownBytes.{Appends}
 use Rattle.hz_ops.specs.Activations.{Module}

@@ -1,5 +1,5 @@
 -- An instruction that is read lies within the code, and takes some bytes of it.
-use Rattle.std.proofs.Common.{◌≡◌, ℕ, suc, ◌+◌, ◌-◌, ◌%◌, ◌<◌, ◌≤◌, List, [], ◌∷◌, length, take, drop, Option, None, Some, ap, sym, subst, ◌∙◌, arith}
+use Rattle.std.proofs.Common.{◌≡◌, ℕ, ◌+◌, ◌-◌, ◌%◌, ◌<◌, ◌≤◌, List, [], ◌∷◌, length, take, drop, Option, None, Some, ap, sym, subst, arith}
 use Rattle.std.specs.Prelude.{option_map, nat_le, Bool}
 use Rattle.std.proofs.lemmas.List.{length-take, length-drop}
 use Rattle.hz_ops.specs.declared.op.Op.{Op}

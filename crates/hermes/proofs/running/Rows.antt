@@ -1,5 +1,5 @@
 -- Steps of code from facts on registers.
-use Rattle.std.proofs.Common.{◌≡◌, ℕ, ℤ, ◌+◌, ◌-◌, ◌≤◌, take, drop, append-nil, arith, nat_le, ◌<◌, List, [], map, length, Option, None, Some, Result, Ok, Err, refl, sym, ap, ◌∙◌, subst}
+use Rattle.std.proofs.Common.{◌≡◌, ℕ, ℤ, ◌+◌, ◌-◌, ◌≤◌, take, drop, append-nil, arith, nat_le, ◌<◌, List, [], map, length, None, Some, Result, Ok, Err, refl, sym, ap, ◌∙◌, subst}
 use Rattle.std.specs.Prelude.{slice_get, slice_set, option_map, Bool, true, false, IsTrue, ◌↔◌, if◌then◌else◌, bytes_eq}
 use Rattle.std.proofs.lemmas.Option.{slice_get-map, slice_get-get_or}
 use Rattle.std.proofs.lemmas.List.{map-set, drop-map, take-map, length-map}
@@ -12,10 +12,8 @@ use Rattle.hz_ops.specs.Activations.{Module, Activation, written, Next, Goes, Do
 use Rattle.hz_ops.specs.Step.{found_to, held_to, load_int, load_string, number_to, global_to, load_global, row_at, line_to}
 use Rattle.hz_ops.specs.Runs.{next_system, Running}
 use Rattle.hermes.specs.declared.first.run.held.Held.{Held}
-use Rattle.hermes.specs.declared.first.run.held.Held.TheVariants.{Undefined, Number, Text}
-use Rattle.hermes.specs.declared.first.run.stop.FirstEnd.TheVariants.{BadCode}
+use Rattle.hermes.specs.declared.first.run.held.Held.TheVariants.{Undefined, Number}
 use Rattle.hermes.specs.declared.first.run.stop.Stop.{Stop}
-use Rattle.hermes.specs.declared.first.run.stop.Stop.TheVariants.{End}
 use Rattle.hermes.specs.FirstSteps.{content_of, activation, IsStep, Put, called, CallsPrint}
 use Rattle.hermes.specs.Printing.{line_bytes, printed}
 use Rattle.hermes.specs.declared.first.run.operands.CallOperands.{CallOperands}

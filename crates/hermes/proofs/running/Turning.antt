@@ -1,9 +1,7 @@
 -- A run of code, followed an instruction at a time, and what went out.
-use Rattle.std.proofs.Common.{◌≡◌, ℕ, zero, suc, ◌+◌, ◌-◌, ◌≤◌, List, [], ◌∷◌, ◌++◌, length, take, map, Option, None, Some, Result, Err, refl, sym, ap, subst, ◌∙◌, append_assoc, append-nil, zero-add, suc-add, arith}
+use Rattle.std.proofs.Common.{◌≡◌, ℕ, ◌+◌, List, [], ◌∷◌, ◌++◌, length, take, map, Option, None, Some, Err, refl, sym, ap, subst, ◌∙◌, append_assoc, append-nil}
 use Rattle.std.proofs.Math.Seq.{take-append-add}
-use Rattle.std.proofs.lemmas.List.{take_all}
 use Rattle.std.specs.Io.KnownBytes.{Appends}
-use Rattle.hz_ops.specs.Contents.{Content}
 use Rattle.hz_ops.specs.Activations.{Module, Activation, entered, Act, Print, Return, Leave, Bad, Beyond, Next, Goes, Does}
 use Rattle.hz_ops.specs.Step.{cstep}
 use Rattle.hz_ops.specs.Runs as run

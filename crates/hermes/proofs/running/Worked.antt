@@ -5,6 +5,8 @@ use Rattle.std.specs.Fmt.{digits}
 use Rattle.std.specs.Char.{encode_utf8}
 use Rattle.std.specs.Char.Utf16.{utf16_chars}
 use Rattle.hz_value.specs.declared.leaving.Left.TheVariants as left
+use Rattle.hz_file.specs.Layout.{field}
+use Rattle.hz_file.specs.Module.{module_of}
 use Rattle.hz_file.specs.Image.{program, script_module}
 use Rattle.hz_ops.specs.Table.{op_at}
 use Rattle.hz_ops.specs.Activations.{Module}
@@ -50,6 +52,28 @@ pub missing_is_built : let m = script (1 ∷ 6 ∷ 64 ∷ 0 ∷ []) in IsBuilt m
 unfolding op_at digits
 missing_is_built = built _ [] BadCode (record { steps = 1; ended = refl })
 
+pub endless_is_built : let m = script (1 ∷ 0 ∷ []) in IsBuilt m (start_of m)
+unfolding op_at digits
+endless_is_built = built _ [] BadCode (record { steps = 2; ended = refl })
+
 pub two_lines_are_built : let m = script (23 ∷ 0 ∷ 0 ∷ 0 ∷ 1 ∷ 1 ∷ 7 ∷ 2 ∷ 1 ∷ 0 ∷ 6 ∷ 3 ∷ 252 ∷ 83 ∷ 5 ∷ 0 ∷ 1 ∷ 2 ∷ 2 ∷ 83 ∷ 5 ∷ 0 ∷ 1 ∷ 0 ∷ 0 ∷ 64 ∷ 5 ∷ []) in IsBuilt m (start_of m)
 unfolding op_at digits
 two_lines_are_built = built _ (codes "a b -4" ∷ [] ∷ []) Done (record { steps = 7; ended = refl })
+
+-- a file that prints a wide text: a pair of surrogates, and a high one behind it
+abbrev pub wide_file : List ℕ
+wide_file =
+    255 ∷ 72 ∷ 66 ∷ 67 ∷ 87 ∷ 0 ∷ 13 ∷ 10 ∷ 1 ∷ 0 ∷ 0 ∷ 0 ∷ 0 ∷ 0 ∷ 0 ∷ 0 ∷ 201 ∷ 0 ∷ 0 ∷ 0 ∷ 0 ∷ 0 ∷ 0
+    ∷ 0 ∷ 218 ∷ 57 ∷ 163 ∷ 238 ∷ 94 ∷ 107 ∷ 75 ∷ 13 ∷ 50 ∷ 85 ∷ 191 ∷ 239 ∷ 149 ∷ 96 ∷ 24 ∷ 144 ∷ 175
+    ∷ 216 ∷ 7 ∷ 9 ∷ 0 ∷ 0 ∷ 0 ∷ 0 ∷ 1 ∷ 0 ∷ 0 ∷ 0 ∷ 0 ∷ 0 ∷ 0 ∷ 0 ∷ 2 ∷ 0 ∷ 0 ∷ 0 ∷ 0 ∷ 0 ∷ 0 ∷ 0 ∷ 0
+    ∷ 0 ∷ 0 ∷ 0 ∷ 0 ∷ 0 ∷ 0 ∷ 0 ∷ 0 ∷ 0 ∷ 0 ∷ 0 ∷ 0 ∷ 0 ∷ 0 ∷ 0 ∷ 0 ∷ 0 ∷ 0 ∷ 0 ∷ 0 ∷ 0 ∷ 0 ∷ 0 ∷ 18 ∷ 0
+    ∷ 0 ∷ 0 ∷ 0 ∷ 0 ∷ 0 ∷ 0 ∷ 11 ∷ 0 ∷ 0 ∷ 0 ∷ 0 ∷ 0 ∷ 0 ∷ 0 ∷ 0 ∷ 0 ∷ 0 ∷ 0 ∷ 0 ∷ 0 ∷ 0 ∷ 0 ∷ 0 ∷ 0 ∷ 0
+    ∷ 0 ∷ 0 ∷ 0 ∷ 0 ∷ 0 ∷ 0 ∷ 0 ∷ 0 ∷ 0 ∷ 0 ∷ 0 ∷ 0 ∷ 0 ∷ 1 ∷ 0 ∷ 4 ∷ 0 ∷ 0 ∷ 0 ∷ 0 ∷ 0 ∷ 18 ∷ 0 ∷ 0 ∷ 0
+    ∷ 0 ∷ 0 ∷ 0 ∷ 0 ∷ 0 ∷ 0 ∷ 0 ∷ 5 ∷ 11 ∷ 0 ∷ 0 ∷ 3 ∷ 112 ∷ 114 ∷ 105 ∷ 110 ∷ 116 ∷ 61 ∷ 216 ∷ 0 ∷ 222
+    ∷ 0 ∷ 216 ∷ 23 ∷ 0 ∷ 0 ∷ 0 ∷ 1 ∷ 1 ∷ 7 ∷ 2 ∷ 1 ∷ 0 ∷ 83 ∷ 3 ∷ 0 ∷ 1 ∷ 2 ∷ 1 ∷ 64 ∷ 3 ∷ 238 ∷ 175
+    ∷ 145 ∷ 186 ∷ 133 ∷ 24 ∷ 186 ∷ 85 ∷ 215 ∷ 184 ∷ 35 ∷ 66 ∷ 145 ∷ 156 ∷ 244 ∷ 31 ∷ 106 ∷ 81 ∷ 89 ∷ 139
+    ∷ []
+
+pub wide_is_built : let m = code_module (module_of wide_file) in IsBuilt m (start_of m)
+unfolding op_at module_of field
+wide_is_built = ended_is_built (code_module (module_of wide_file)) (start_of (code_module (module_of wide_file))) ((0xD83D ∷ 0xDE00 ∷ 0xD800 ∷ []) ∷ []) Done (record { steps = 5; ended = refl })

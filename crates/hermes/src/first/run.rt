@@ -34,12 +34,13 @@ use turn::turn;
 /// front of what the code prints. The code must not come to what no row says: an operator on other
 /// than two numbers, a global other than `print`, and a call of anything else.
 pub fn run_first<K: Sink>(alloc: Global, file: &File<'_>, out: &mut K) -> FirstEnd
-    requires built { IsBuilt (code_module (module_of file.now)) (start_of (code_module (module_of file.now))) }
+    requires built { let m = code_module (module_of file.now) in IsBuilt m (start_of m) }
     ensures outcome { RunsTo (code_module (module_of file.now)) (K.got out.old) (K.got out.new) result }
     ensures cause { Counts (K.count out.old) (K.count out.new) result }
 
-    // What is known of the end of the code holds for the answer.
-    ensures agrees { (lines : List (List ℕ)) (end : End) → Ends (code_module (module_of file.now)) (start_of (code_module (module_of file.now))) lines end → Agrees lines end (K.got out.old) (K.got out.new) result }
+    // Where the code is known to end, the answer is that end.
+    ensures agrees { let m = code_module (module_of file.now) in
+        (lines : List (List ℕ)) (end : End) → Ends m (start_of m) lines end → Agrees lines end (K.got out.old) (K.got out.new) result }
 {
     let (code, count) = code::script(file);
     match code::entered(alloc, count) {

@@ -36,7 +36,7 @@ fn run(alloc: Global, texts: &Texts, code: &[u8], out: &mut MemSink) -> Result<F
 
 // `print(1 + 2 * 3)`
 #[test]
-#[tactic(auto, using(crate::proofs::Worked::sum_is_built))]
+#[tactic(auto, using(crate::proofs::running::Worked::sum_is_built))]
 fn a_sum_is_printed(rt: HostRuntime) -> Result<(), Fail> {
     let mut out = MemSink::new(rt.alloc(), 100)?;
     let texts = two_texts(rt.alloc())?;
@@ -51,7 +51,7 @@ fn a_sum_is_printed(rt: HostRuntime) -> Result<(), Fail> {
 
 // `print(1)`, and then `9007199254740991 + 1`
 #[test]
-#[tactic(auto, using(crate::proofs::Worked::unsafe_is_built))]
+#[tactic(auto, using(crate::proofs::running::Worked::unsafe_is_built))]
 fn an_unsafe_sum_leaves(rt: HostRuntime) -> Result<(), Fail> {
     let mut out = MemSink::new(rt.alloc(), 100)?;
     let texts = two_texts(rt.alloc())?;
@@ -67,14 +67,18 @@ fn an_unsafe_sum_leaves(rt: HostRuntime) -> Result<(), Fail> {
     Ok(())
 }
 
-// register 6, of which there is none
+// register 6, of which there is none, and an end without a Return
 #[test]
-#[tactic(auto, using(crate::proofs::Worked::missing_is_built))]
-fn a_missing_register_is_bad_code(rt: HostRuntime) -> Result<(), Fail> {
+#[tactic(auto, using(crate::proofs::running::Worked::missing_is_built, crate::proofs::running::Worked::endless_is_built))]
+fn a_missing_register_or_end_is_bad_code(rt: HostRuntime) -> Result<(), Fail> {
     let mut out = MemSink::new(rt.alloc(), 100)?;
     let texts = two_texts(rt.alloc())?;
     assert_eq!(rt;
         run(rt.alloc(), &texts, &[1, 6, 64, 0], &mut out)?,
+        FirstEnd::BadCode
+    );
+    assert_eq!(rt;
+        run(rt.alloc(), &texts, &[1, 0], &mut out)?,
         FirstEnd::BadCode
     );
     Ok(())
@@ -82,7 +86,7 @@ fn a_missing_register_is_bad_code(rt: HostRuntime) -> Result<(), Fail> {
 
 // `print("a b", -4)` and `print()`, whose line cannot be sent
 #[test]
-#[tactic(auto, using(crate::proofs::Worked::two_lines_are_built))]
+#[tactic(auto, using(crate::proofs::running::Worked::two_lines_are_built))]
 fn a_failed_write_ends_the_run(rt: HostRuntime) -> Result<(), Fail> {
     let mut out = MemSink::new(rt.alloc(), 100)?;
     out.fail_at(1)?;
@@ -104,5 +108,26 @@ fn a_line_is_sent_in_utf_8(rt: HostRuntime) -> Result<(), Fail> {
     assert_eq!(rt; pair.as_bytes(), "é😀\n".as_bytes());
     let alone = line_bytes(rt.alloc(), &[0xD800])?;
     assert_eq!(rt; alone.as_bytes(), "\u{FFFD}\n".as_bytes());
+    Ok(())
+}
+
+// `print` of a pair of surrogates and a high one, from a file that another program wrote
+#[test]
+#[tactic(auto, using(crate::proofs::running::Worked::wide_is_built))]
+fn a_wide_text_is_printed(rt: HostRuntime) -> Result<(), Fail> {
+    let mut out = MemSink::new(rt.alloc(), 100)?;
+    let bytes = [
+        255, 72, 66, 67, 87, 0, 13, 10, 1, 0, 0, 0, 0, 0, 0, 0, 201, 0, 0, 0, 0, 0, 0, 0, 218, 57,
+        163, 238, 94, 107, 75, 13, 50, 85, 191, 239, 149, 96, 24, 144, 175, 216, 7, 9, 0, 0, 0, 0,
+        1, 0, 0, 0, 0, 0, 0, 0, 2, 0, 0, 0, 0, 0, 0, 0, 0, 0, 0, 0, 0, 0, 0, 0, 0, 0, 0, 0, 0, 0,
+        0, 0, 0, 0, 0, 0, 0, 0, 0, 0, 18, 0, 0, 0, 0, 0, 0, 0, 11, 0, 0, 0, 0, 0, 0, 0, 0, 0, 0, 0,
+        0, 0, 0, 0, 0, 0, 0, 0, 0, 0, 0, 0, 0, 0, 0, 0, 0, 0, 0, 0, 1, 0, 4, 0, 0, 0, 0, 0, 18, 0,
+        0, 0, 0, 0, 0, 0, 0, 0, 0, 5, 11, 0, 0, 3, 112, 114, 105, 110, 116, 61, 216, 0, 222, 0,
+        216, 23, 0, 0, 0, 1, 1, 7, 2, 1, 0, 83, 3, 0, 1, 2, 1, 64, 3, 238, 175, 145, 186, 133, 24,
+        186, 85, 215, 184, 35, 66, 145, 156, 244, 31, 106, 81, 89, 139,
+    ];
+    let file = File::open(&bytes)?;
+    assert_eq!(rt; run_first(rt.alloc(), &file, &mut out), FirstEnd::Done);
+    assert_eq!(rt; out.bytes(), "😀\u{FFFD}\n".as_bytes());
     Ok(())
 }

@@ -1,7 +1,6 @@
-use Rattle.std.proofs.Common.{rules, ◌≡◌, [], ◌∷◌, ◌++◌, map, IfOk, string_bytes, codes, ℕ, ◌+◌, ◌-◌, ◌*◌, ◌<◌, ◌≤◌, length, ◌/◌, ◌%◌, Bool, true, false, nat_eq, nat_lt, List, slice_index_or, slice_set, bit_and, bit_or, Fits, w8, w32, w64, Bor, MutBor}
+use Rattle.std.proofs.Common.{rules, ◌≡◌, [], ◌∷◌, ◌++◌, map, ◌-◌, length}
 use Rattle.hz_ops.specs.Contents.{text_of, line_of}
-use Rattle.hermes.specs.Printing.{line_bytes}
-use Rattle.hermes.specs.FirstSteps.{content_of, Wrote, MadeLine}
+use Rattle.hermes.specs.FirstSteps.{content_of}
 use Rattle.std.proofs.Common.{take, drop, ap, sym, ◌∙◌, arith, option_map, Some}
 use Rattle.hermes.proofs.running.Lines.{first_and_rest, begun}
 use Rattle.hermes.proofs.first.run.line.line_of.Goals as goal

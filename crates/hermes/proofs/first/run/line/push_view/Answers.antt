@@ -1,7 +1,4 @@
-use Rattle.std.proofs.Common.{rules, ◌≡◌, [], ◌∷◌, ◌++◌, map, IfOk, string_bytes, codes, ℕ, ◌+◌, ◌-◌, ◌*◌, ◌<◌, ◌≤◌, length, ◌/◌, ◌%◌, Bool, true, false, nat_eq, nat_lt, List, slice_index_or, slice_set, bit_and, bit_or, Fits, w8, w32, w64, Bor, MutBor}
-use Rattle.hz_ops.specs.Contents.{text_of, line_of}
-use Rattle.hermes.specs.Printing.{line_bytes}
-use Rattle.hermes.specs.FirstSteps.{content_of, Wrote, MadeLine}
+use Rattle.std.proofs.Common.{rules, ◌≡◌, [], ◌∷◌, ◌++◌}
 use Rattle.std.proofs.Common.{take, ap, sym, ◌∙◌, append_assoc, Some, slice_get}
 use Rattle.hermes.proofs.running.Lines.{take_one}
 use Rattle.hermes.proofs.first.run.line.push_view.Goals as goal

@@ -1,12 +1,9 @@
-use Rattle.std.proofs.Common.{◌≡◌, rules, Some, arith, refl, ap, true, false, ◌∙◌}
-use Rattle.std.specs.Prelude.{slice_get, Err, bytes_eq}
-use Rattle.hz_value.specs.Numbers.{safe}
+use Rattle.std.proofs.Common.{◌≡◌, rules, Some, refl, true, false, ◌∙◌}
+use Rattle.std.specs.Prelude.{slice_get, Err}
 use Rattle.hz_file.specs.Module.{module_of}
-use Rattle.hz_ops.specs.Step as row
-use Rattle.hermes.specs.declared.first.run.held.Held.TheVariants.{Undefined, Number, Text, Print}
+use Rattle.hermes.specs.declared.first.run.held.Held.TheVariants.{Print}
 use Rattle.hermes.specs.FileCode.{code_module}
 use Rattle.hermes.specs.FirstSteps.{activation}
-use Rattle.hz_ops.specs.Contents.{print_name}
 use Rattle.hz_ops.specs.Activations.{Does, Beyond}
 use Rattle.hermes.specs.declared.first.run.stop.Stop.TheVariants.{Unbuilt}
 use Rattle.hermes.proofs.running.Rows.{put_row, on_step, print_test, global_print, global_other}

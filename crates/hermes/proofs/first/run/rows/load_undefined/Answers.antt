@@ -1,12 +1,6 @@
-use Rattle.std.proofs.Common.{◌≡◌, rules, Some, arith, refl, ap}
-use Rattle.std.specs.Prelude.{slice_get}
-use Rattle.hz_value.specs.Numbers.{safe}
-use Rattle.hz_file.specs.Module.{module_of}
-use Rattle.hz_ops.specs.Step as row
-use Rattle.hermes.specs.declared.first.run.held.Held.TheVariants.{Undefined, Number, Text}
-use Rattle.hermes.specs.FileCode.{code_module}
-use Rattle.hermes.specs.FirstSteps.{activation}
-use Rattle.hermes.proofs.running.Rows.{put_row, put_result, int_found, text_found, on_step}
+use Rattle.std.proofs.Common.{refl}
+use Rattle.hermes.specs.declared.first.run.held.Held.TheVariants.{Undefined}
+use Rattle.hermes.proofs.running.Rows.{put_row}
 use Rattle.hermes.proofs.first.run.rows.load_undefined.Goals as goal
 
 pub returns : goal.returns

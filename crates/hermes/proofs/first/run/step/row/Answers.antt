@@ -2,7 +2,6 @@ use Rattle.std.proofs.Common.{◌≡◌, rules, ap, ◌∙◌, sym, subst, [], �
 use Rattle.std.proofs.lemmas.Int.{to_z-of_z}
 use Rattle.std.proofs.Common.{w64, to_z, of_z, FitsSigned}
 use Rattle.hz_file.specs.Module.{module_of}
-use Rattle.hz_ops.specs.declared.op.Op.TheVariants as op
 use Rattle.hz_ops.specs.declared.op.Operand.TheVariants as operand
 use Rattle.hz_ops.specs.Step as row
 use Rattle.hz_ops.specs.Activations.{Next}

@@ -1,4 +1,4 @@
-use Rattle.std.proofs.Common.{◌≡◌, ◌+◌, rules, ap, ◌∙◌, sym, subst, [], Some, Err}
+use Rattle.std.proofs.Common.{◌≡◌, ◌+◌, rules, sym, subst, [], Some, Err}
 use Rattle.hz_file.specs.Module.{module_of}
 use Rattle.hz_ops.specs.Coding.{decode_at}
 use Rattle.hz_ops.specs.Activations.{code_of}
