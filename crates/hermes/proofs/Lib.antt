@@ -1,0 +1,7 @@
+pub mod Ascii
+pub mod Compiling
+pub mod Finished
+pub mod Sources
+pub mod generating
+pub mod reading
+pub mod running

@@ -1,0 +1,5 @@
+use Rattle.hermes.specs.Reading.{IsRead}
+use Rattle.hermes.proofs.first.reader.read.Given as goal
+
+abbrev pub invariant-loop-at : goal.invariant-loop-at
+invariant-loop-at l = IsRead l.source l.at l.state l.calls

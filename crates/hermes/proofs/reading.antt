@@ -1,0 +1,11 @@
+pub mod Arguments
+pub mod Bools
+pub mod Digits
+mod Examples
+pub mod Numerals
+pub mod Reached
+pub mod Spacing
+pub mod Steps
+pub mod SumSteps
+pub mod Tokens
+pub mod Weights

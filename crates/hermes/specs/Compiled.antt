@@ -1,0 +1,35 @@
+-- What the compiled file of a source is.
+use Rattle.std.specs.Prelude.{◌≡◌, ℕ, List, false, None}
+use Rattle.hz_file.specs.Layout.{HasMagic}
+use Rattle.hz_file.specs.Module.{module_of}
+use Rattle.hz_file.specs.Opening.{rule}
+use Rattle.hz_ops.specs.Activations as code
+use Rattle.hz_ops.specs.Runs.{start_of, Ends, IsBuilt}
+use Rattle.hermes.specs.declared.first.language.Argument.{Argument}
+use Rattle.hermes.specs.declared.first.language.FirstFault.{FirstFault}
+use Rattle.hermes.specs.declared.first.language.FirstFault.TheVariants as fault
+use Rattle.hermes.specs.FileCode.{code_module}
+use Rattle.hermes.specs.FirstTexts.{IsAccepted, IsRefused}
+use Rattle.hermes.specs.Saying.{lines_of, end_of}
+
+-- the code of a file
+abbrev pub code_in : List ℕ → code.Module
+code_in file = code_module (module_of file)
+
+-- The file can be opened, holds the source, and its code prints what the source says and ends as it ends.
+pub record IsCompiled (source : List ℕ) (calls : List Argument) (file : List ℕ) : Type 0 where
+  pub accepted : IsAccepted source calls
+  pub magic : HasMagic file
+  pub opens : rule file ≡ None
+  pub source_kept : (module_of file).source ≡ source
+  pub flag : (module_of file).strict ≡ false
+  pub says : Ends (code_in file) (start_of (code_in file)) (lines_of calls) (end_of calls)
+  pub built : IsBuilt (code_in file) (start_of (code_in file))
+
+abbrev pub Compiles : List ℕ → List ℕ → Type 0
+Compiles source file = (calls : List Argument) × IsCompiled source calls file
+
+-- a source is refused as `IsRefused` says
+abbrev pub FaultOf : List ℕ → FirstFault → Type 0
+FaultOf source (fault.NotYet at) = IsRefused source at
+FaultOf source fault.Memory = Unit {0}

@@ -1,0 +1,14 @@
+pub mod Compiled
+pub mod Effects
+pub mod FileCode
+pub mod FirstRun
+pub mod FirstSteps
+pub mod FirstTexts
+pub mod Generated
+pub mod Outcomes
+pub mod Printing
+pub mod Reading
+pub mod Saying
+pub mod Scripts
+pub mod Statuses
+pub mod Words

@@ -1,0 +1,48 @@
+-- What the status of a call says of the source and of what went out.
+use Rattle.std.specs.Prelude.{◌≡◌, ◌⊎◌, ℕ, List, Option, Some, None}
+use Rattle.std.specs.Io.KnownBytes.{Appends, Keeps}
+use Rattle.hz_ops.specs.Runs.{End, Done, LeftFor}
+use Rattle.hz_io.specs.Contents.{Contents}
+use Rattle.hermes.specs.declared.first.language.Argument.{Argument}
+use Rattle.hermes.specs.declared.status.Refusal.TheVariants.{NotYet}
+use Rattle.hermes.specs.declared.status.Status.{Status}
+use Rattle.hermes.specs.declared.status.Status.TheVariants as status
+use Rattle.hermes.specs.FirstTexts.{IsAccepted, IsRefused}
+use Rattle.hermes.specs.Saying.{lines_of, end_of}
+use Rattle.hermes.specs.Printing.{printed, AppendsPrefix}
+
+-- The source runs, ends so, and all of its lines went out.
+abbrev pub Printed : End → List ℕ → Option (List ℕ) → Option (List ℕ) → Type 0
+Printed end source old new =
+    (calls : List Argument) × IsAccepted source calls × (end_of calls ≡ end) × Appends old new (printed (lines_of calls))
+
+-- The source runs, and a front of its lines' bytes went out.
+abbrev pub PrintedFront : List ℕ → Option (List ℕ) → Option (List ℕ) → Type 0
+PrintedFront source old new =
+    (calls : List Argument) × IsAccepted source calls × AppendsPrefix old new (printed (lines_of calls))
+
+-- What a status says of the source, and of what went out: `old` is what standard output had got before the call,
+-- and `new` behind it, where it tells this. Which case comes is determined by the source, but for faults and memory.
+abbrev pub Outcome : Status → List ℕ → Option (List ℕ) → Option (List ℕ) → Type 0
+Outcome status.Done source old new = Printed Done source old new
+Outcome (status.Left reason) source old new = Printed (LeftFor reason) source old new
+Outcome (status.Refused (NotYet at)) source old new = IsRefused source at × Keeps old new
+Outcome status.ReadFault source old new = Keeps old new
+Outcome status.WriteFault source old new = PrintedFront source old new
+Outcome status.Memory source old new = PrintedFront source old new ⊎ Keeps old new
+Outcome (status.Usage word) source old new = ⊥
+
+-- no source was read
+abbrev pub IsUnread : Status → Type 0
+IsUnread s = (s ≡ status.ReadFault) ⊎ (s ≡ status.Memory)
+
+-- What a status says where the file holds this source, or is not there.
+abbrev pub OutcomeAt : Option (List ℕ) → Status → Option (List ℕ) → Option (List ℕ) → Type 0
+OutcomeAt (Some source) status old new = Outcome status source old new
+OutcomeAt None status old new = IsUnread status × Keeps old new
+
+-- What a status says of a file with this name: of the source that it holds, or of some source where the files do
+-- not tell what they hold.
+abbrev pub OutcomeOf : Option Contents → List ℕ → Status → Option (List ℕ) → Option (List ℕ) → Type 0
+OutcomeOf None name status old new = (source : List ℕ) × Outcome status source old new
+OutcomeOf (Some held) name status old new = OutcomeAt (held name) status old new

@@ -1,0 +1,62 @@
+// A source from its bytes to the end of its run, by way of a file in memory.
+
+ghost use Rattle.std.specs.Prelude.{◌≡◌, ℕ, List, None};
+ghost use Rattle.hz_file.specs.Layout.{HasMagic};
+ghost use Rattle.hz_file.specs.Opening.{rule};
+ghost use Rattle.hz_ops.specs.Runs.{End, start_of, Ends, IsBuilt};
+ghost use Rattle.hermes.specs.Compiled.{Compiles, code_in};
+ghost use Rattle.hermes.specs.Effects.{WriteCause};
+ghost use Rattle.hermes.specs.FirstRun.{Agrees, Counts};
+ghost use Rattle.hermes.specs.Outcomes.{Outcome};
+
+use crate::first::compile::compile_first;
+use crate::first::language::FirstFault;
+use crate::first::run::{FirstEnd, run_first};
+use crate::status::{Refusal, Status};
+use hz_file::File;
+use hz_io::Sink;
+use std::alloc::Global;
+
+/// Compiles the source to the bytes of a file, opens that file, and runs it.
+pub fn run_source<K: Sink>(alloc: Global, source: &[u8], out: &mut K) -> Status
+    ensures outcome { Outcome result source.now (K.got out.old) (K.got out.new) }
+    ensures read { result ≡ Status.ReadFault → ⊥ }
+    ensures cause { WriteCause result (K.count out.old) (K.count out.new) }
+{
+    match compile_first(alloc, source) {
+        Ok(file) => run_compiled(alloc, source, file.as_slice(), out),
+        Err(FirstFault::NotYet(at)) => Status::Refused(Refusal::NotYet(at)),
+        Err(FirstFault::Memory) => Status::Memory,
+    }
+}
+
+// Runs the file that a source was compiled to.
+fn run_compiled<K: Sink>(alloc: Global, _source: &[u8], bytes: &[u8], out: &mut K) -> Status
+    requires { Compiles _source.now bytes.now }
+    ensures outcome { Outcome result _source.now (K.got out.old) (K.got out.new) }
+    ensures read { result ≡ Status.ReadFault → ⊥ }
+    ensures cause { WriteCause result (K.count out.old) (K.count out.new) }
+{
+    match run_file(alloc, bytes, out) {
+        FirstEnd::Done => Status::Done,
+        FirstEnd::Left(reason) => Status::Left(reason),
+        FirstEnd::BadCode => unreachable!(),
+        FirstEnd::WriteFault => Status::WriteFault,
+        FirstEnd::Memory => Status::Memory,
+    }
+}
+
+// Opens a file that breaks no rule, and runs its code.
+fn run_file<K: Sink>(alloc: Global, bytes: &[u8], out: &mut K) -> FirstEnd
+    requires magic { HasMagic bytes.now }
+    requires opens { rule bytes.now ≡ None }
+    requires built { IsBuilt (code_in bytes.now) (start_of (code_in bytes.now)) }
+    ensures agrees { (lines : List (List ℕ)) (end : End) → Ends (code_in bytes.now) (start_of (code_in bytes.now)) lines end
+        → Agrees lines end (K.got out.old) (K.got out.new) result }
+    ensures cause { Counts (K.count out.old) (K.count out.new) result }
+{
+    match File::open(bytes) {
+        Ok(file) => run_first(alloc, &file, out),
+        Err(_) => unreachable!(),
+    }
+}

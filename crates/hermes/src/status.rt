@@ -1,0 +1,123 @@
+// How a call of the command ends: its status, the code that the process ends with, and the line on standard error.
+
+ghost use Rattle.std.specs.Prelude.{◌≡◌, ℕ, ◌+◌, ◌≤◌, List, [], ◌∷◌, ◌++◌, decimal, length};
+ghost use Rattle.hz_value.specs.Leaving.{name_of_left};
+ghost use Rattle.hermes.specs.Statuses.{code_of, line_of};
+
+use arrayvec::ArrayVec;
+use hz_value::Left;
+use itoa::Buffer;
+
+/// Why a source is not compiled.
+#[derive(Clone, Copy, Debug, PartialEq, Eq)]
+pub enum Refusal {
+    /// The source goes past what is built so far. This is the place, in bytes, up to which it does not.
+    NotYet(usize),
+}
+
+/// How a call of the command ended.
+#[derive(Clone, Copy, Debug, PartialEq, Eq)]
+pub enum Status {
+    /// The script ran to its end.
+    Done,
+
+    /// The words are no command. This is the number of the first word at which they stop beginning one.
+    Usage(usize),
+
+    /// The source was not compiled.
+    Refused(Refusal),
+
+    /// The run met something that this compiler does not carry out.
+    Left(Left),
+
+    /// The source could not be read.
+    ReadFault,
+
+    /// Output could not be written.
+    WriteFault,
+
+    /// Memory ran out.
+    Memory,
+}
+
+/// A line on standard error.
+type Line = ArrayVec<u8, 64>;
+
+impl Status {
+    /// The code that the process ends with.
+    pub fn code(&self) -> u8
+        ensures { result ≡ code_of self.now }
+    {
+        match self {
+            Status::Done => 0,
+            Status::Usage(_) => 2,
+            Status::Refused(_) => 3,
+            Status::Left(_) => 5,
+            Status::ReadFault => 7,
+            Status::WriteFault => 8,
+            Status::Memory => 70,
+        }
+    }
+
+    /// The line on standard error with its newline, or nothing where there is none. It takes no memory.
+    pub fn line(&self) -> Line
+        ensures { result.items ≡ line_of self.now }
+    {
+        match self {
+            Status::Done => ArrayVec::new(),
+            Status::Usage(word) => numbered(b"usage error at word ", *word),
+            Status::Refused(Refusal::NotYet(at)) => numbered(b"refused: NotYet at ", *at),
+            Status::Left(reason) => joined(b"left: ", name_of(*reason).as_bytes()),
+            Status::ReadFault => joined(b"read ", b"fault"),
+            Status::WriteFault => joined(b"write ", b"fault"),
+            Status::Memory => joined(b"out of ", b"memory"),
+        }
+    }
+}
+
+fn name_of(reason: Left) -> &'static str
+    ensures name { result.now ≡ name_of_left reason }
+    ensures short { length result.now ≤ 11 }
+{
+    match reason {
+        Left::NotSafe => "NotSafe",
+        Left::Missing => "Missing",
+        Left::Wrapper => "Wrapper",
+        Left::ZeroSign => "ZeroSign",
+        Left::CaseMapping => "CaseMapping",
+        Left::TooDeep => "TooDeep",
+        Left::LongLine => "LongLine",
+    }
+}
+
+// The words, and a number behind them.
+fn numbered(words: &[u8], number: usize) -> Line
+    requires { length words.now ≤ 20 }
+    ensures { result.items ≡ words.now ++ decimal number ++ 10 ∷ [] }
+{
+    let mut digits = Buffer::new();
+    joined(words, digits.format(number).as_bytes())
+}
+
+// The words, and these bytes behind them.
+fn joined(words: &[u8], more: &[u8]) -> Line
+    requires words { length words.now ≤ 20 }
+    requires more { length more.now ≤ 40 }
+    ensures { result.items ≡ words.now ++ more.now ++ 10 ∷ [] }
+{
+    let mut line = ArrayVec::new();
+    add(&mut line, words);
+    add(&mut line, more);
+    line.push(b'\n');
+    line
+}
+
+fn add(line: &mut Line, bytes: &[u8])
+    requires { length line.old.items + length bytes.now ≤ 64 }
+    ensures { line.new.items ≡ line.old.items ++ bytes.now }
+{
+    match line.try_extend_from_slice(bytes) {
+        Ok(()) => {}
+        Err(_) => unreachable!(),
+    }
+}
