@@ -6,3 +6,5 @@ pub mod Numbers
 pub mod Literals
 pub mod Punctuators
 pub mod Tokens
+pub mod Classes
+pub mod Look
