@@ -8,3 +8,13 @@ pub mod Punctuators
 pub mod Tokens
 pub mod Classes
 pub mod Look
+pub mod Symbols
+pub mod Places
+pub mod GrammarFunctions
+pub mod GrammarStatements
+pub mod GrammarOperators
+pub mod GrammarExpressions
+pub mod GrammarFor
+pub mod GrammarPrimaries
+pub mod GrammarProperties
+pub mod Grammar
