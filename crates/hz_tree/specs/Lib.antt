@@ -18,3 +18,6 @@ pub mod GrammarFor
 pub mod GrammarPrimaries
 pub mod GrammarProperties
 pub mod Grammar
+pub mod Reading
+pub mod Functions
+pub mod Refusals
