@@ -1,3 +1,5 @@
 pub mod TextLemmas
 pub mod TokenLemmas
 pub mod Rows
+pub mod GrammarRows
+pub mod FunctionRows
