@@ -21,3 +21,4 @@ pub mod Grammar
 pub mod Reading
 pub mod Functions
 pub mod Refusals
+pub mod Shown
