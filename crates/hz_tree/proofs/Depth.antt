@@ -54,7 +54,7 @@ takes_within wanted [] = tt
 takes_within wanted (x ∷ ts) =
     elim (fits wanted x.class) as (λ t. Within true (length (x ∷ ts)) (if t then Got x ts else Stuck (stuck (look (x ∷ ts))) (x ∷ ts))) [ true ↦ omega arith | false ↦ tt ]
 
-one_within : {Value : Nonterminal → Type 0} (reads : Reader Value) → ((m : Nonterminal) (us : List Terminal) → Within (eats m) (length us) (reads m us))
+pub one_within : {Value : Nonterminal → Type 0} (reads : Reader Value) → ((m : Nonterminal) (us : List Terminal) → Within (eats m) (length us) (reads m us))
     → (symbol : Symbol) (ts : List Terminal) → Within (eats_symbol symbol) (length ts) (read_one reads symbol ts)
 one_within reads shorter (s.Take wanted) ts = takes_within wanted ts
 one_within reads shorter (s.Read m) ts = shorter m ts

@@ -5,3 +5,5 @@ pub mod GrammarRows
 pub mod FunctionRows
 pub mod Ranks
 pub mod Depth
+pub mod Table
+pub mod Law
