@@ -116,7 +116,7 @@ ends_then a bound (Got v rest) next w h f = f v rest w
 ends_then a bound (Stuck cause ts) next w h f = tt
 ends_then a bound Deeper next w h f = h
 
-ends_first : {A B : Type 0} (r : Reading A) (next : A → List Terminal → Reading B) → Ends (and_then r next) → Ends r
+pub ends_first : {A B : Type 0} (r : Reading A) (next : A → List Terminal → Reading B) → Ends (and_then r next) → Ends r
 ends_first (Got v rest) next h = tt
 ends_first (Stuck cause ts) next h = tt
 ends_first Deeper next h = h
@@ -185,7 +185,7 @@ same_then Deeper r' f f' e h ends = ap (λ y. and_then y f') e
 
 module _ {Value : Nonterminal → Type 0} (reads reads' : Reader Value)
     (agree : (m : Nonterminal) (us : List Terminal) → Ends (reads m us) → reads' m us ≡ reads m us) where
-  agree_one : (symbol : Symbol) (us : List Terminal) → Ends (read_one reads symbol us) → read_one reads' symbol us ≡ read_one reads symbol us
+  pub agree_one : (symbol : Symbol) (us : List Terminal) → Ends (read_one reads symbol us) → read_one reads' symbol us ≡ read_one reads symbol us
   agree_one (s.Take wanted) us h = refl
   agree_one (s.Read m) us h = agree m us h
   agree_one (s.Open kind) us h = refl

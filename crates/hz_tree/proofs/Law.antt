@@ -21,7 +21,7 @@ same_within a bound Deeper r' f f' e w h = ap (λ y. and_then y f') e
 module _ {Value : Nonterminal → Type 0} (reads reads' : Reader Value) (bound : ℕ)
     (shorter : (m : Nonterminal) (us : List Terminal) → Within (eats m) (length us) (reads m us))
     (same : (m : Nonterminal) (us : List Terminal) → length us ≤ bound → reads m us ≡ reads' m us) where
-  same_one : (symbol : Symbol) (us : List Terminal) → length us ≤ bound → read_one reads symbol us ≡ read_one reads' symbol us
+  pub same_one : (symbol : Symbol) (us : List Terminal) → length us ≤ bound → read_one reads symbol us ≡ read_one reads' symbol us
   same_one (s.Take wanted) us h = refl
   same_one (s.Read m) us h = same m us h
   same_one (s.Open kind) us h = refl

@@ -7,3 +7,5 @@ pub mod Ranks
 pub mod Depth
 pub mod Table
 pub mod Law
+pub mod Stack
+pub mod Work

@@ -22,3 +22,4 @@ pub mod Reading
 pub mod Functions
 pub mod Refusals
 pub mod Shown
+pub mod Stack
