@@ -182,7 +182,7 @@ abbrev cause_of : Step → BadKind
 cause_of (pushes right) = bad.Syntax
 cause_of (fails cause) = cause
 
-row_pushes : {Value : Nonterminal → Type 0} (m : Nonterminal) (r : RowOf Value m) (right : List Symbol) (ts : List Terminal) → step_of r ≡ pushes right
+pub row_pushes : {Value : Nonterminal → Type 0} (m : Nonterminal) (r : RowOf Value m) (right : List Symbol) (ts : List Terminal) → step_of r ≡ pushes right
     → verdict_one (s.Read m) (by_row tells m (telling r) ts) ≡ ends right ts
 unfolding ends
 row_pushes m (goes right' make) right ts h = row_verdict m right' (read_all tells right' ts) ∙ ap (λ xs. ends xs ts) (ap right_of h)

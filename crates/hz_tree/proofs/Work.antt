@@ -15,7 +15,7 @@ use Rattle.hz_tree.specs.Stack.{Verdict, Through, At, Lost, verdict, ends, befor
 use Rattle.hz_tree.proofs.Ranks.{rank, eats, eats_symbol, rank_small}
 use Rattle.hz_tree.proofs.Depth.{count, Within, one_within, shrinks, Ends, ends_first, reaches, agrees, agree_one, same_depth}
 use Rattle.hz_tree.proofs.Law.{events_fine, tells_ends, tells_law, same_one}
-use Rattle.hz_tree.proofs.Stack.{verdict_one, ends_cons, step_is}
+use Rattle.hz_tree.proofs.Stack.{verdict_one, step_is, row_pushes}
 
 -- ---- more depth changes nothing
 
@@ -155,3 +155,42 @@ got_is_through : (m : Nonterminal) (r : Reading (List Event)) (f : List Terminal
 got_is_through m (Got es rest) f = refl
 got_is_through m (Stuck cause ts) f = refl
 got_is_through m Deeper f = refl
+
+abbrev right_of : Step → List Symbol
+right_of (pushes right) = right
+right_of (fails cause) = []
+
+row_turns : {Value : Nonterminal → Type 0} (m : Nonterminal) (r : RowOf Value m) (right : List Symbol) (ts : List Terminal) → step_of r ≡ pushes right
+    → turns_row turns tells m (telling r) ts ≡ work right ts
+unfolding work
+row_turns m (goes right' make) right ts h = ap (λ xs. work xs ts) (ap right_of h)
+row_turns m (refuses cause) right ts h = cc
+
+pub work_pushes : (m : Nonterminal) (right xs : List Symbol) (ts : List Terminal) → step m (look ts) ≡ pushes right
+    → work (s.Read m ∷ xs) ts ≡ suc (work (right ++ xs) ts)
+unfolding work
+work_pushes m right xs ts h =
+    let row_is : step_of (row m (look ts)) ≡ pushes right = step_is m (look ts) ∙ h in
+    let own : turns m ts ≡ work right ts = turns_law m ts ∙ row_turns m (row m (look ts)) right ts row_is in
+    let behind : if_got (tells m ts) (work xs) ≡ if_through (ends right ts) (work xs) =
+            got_is_through m (tells m ts) (work xs)
+            ∙ ap (λ v. if_through v (work xs)) (ap (verdict_one (s.Read m)) (tells_law m ts) ∙ row_pushes m (row m (look ts)) right ts row_is) in
+    omega (arith, own, behind, work_append right xs ts)
+
+pub work_take : (wanted : Class) (xs : List Symbol) (x : Terminal) (ts : List Terminal) → fits wanted x.class ≡ true
+    → work (s.Take wanted ∷ xs) (x ∷ ts) ≡ suc (work xs ts)
+unfolding work
+work_take wanted xs x ts h =
+    ap (λ t. 1 + if_got (if t then Got x ts else Stuck (stuck (look (x ∷ ts))) (x ∷ ts)) (work xs)) h ∙ omega arith
+
+pub work_open : (kind : FunctionKind) (xs : List Symbol) (ts : List Terminal) → work (s.Open kind ∷ xs) ts ≡ suc (work xs ts)
+unfolding work
+work_open kind xs ts = omega arith
+
+pub work_count : (xs : List Symbol) (ts : List Terminal) → work (s.Count ∷ xs) ts ≡ suc (work xs ts)
+unfolding work
+work_count xs ts = omega arith
+
+pub work_close : (xs : List Symbol) (ts : List Terminal) → work (s.Close ∷ xs) ts ≡ suc (work xs ts)
+unfolding work
+work_close xs ts = omega arith
