@@ -9,3 +9,4 @@ pub mod Table
 pub mod Law
 pub mod Stack
 pub mod Work
+pub mod EventLaws

@@ -23,3 +23,4 @@ pub mod Functions
 pub mod Refusals
 pub mod Shown
 pub mod Stack
+pub mod Events
