@@ -10,3 +10,4 @@ pub mod Law
 pub mod Stack
 pub mod Work
 pub mod EventLaws
+pub mod Said
