@@ -11,3 +11,9 @@ pub mod Stack
 pub mod Work
 pub mod EventLaws
 pub mod Said
+pub mod SaidMade
+pub mod SaidStatements
+pub mod SaidOperators
+pub mod SaidExpressions
+pub mod SaidPrimaries
+pub mod SaidRows
