@@ -17,3 +17,4 @@ pub mod SaidOperators
 pub mod SaidExpressions
 pub mod SaidPrimaries
 pub mod SaidRows
+pub mod Tied
