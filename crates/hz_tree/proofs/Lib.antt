@@ -18,3 +18,4 @@ pub mod SaidExpressions
 pub mod SaidPrimaries
 pub mod SaidRows
 pub mod Tied
+pub mod Answers
