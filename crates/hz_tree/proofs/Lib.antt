@@ -18,3 +18,5 @@ pub mod SaidOperators
 pub mod SaidExpressions
 pub mod SaidPrimaries
 pub mod SaidRows
+pub mod Tied
+pub mod Answers
