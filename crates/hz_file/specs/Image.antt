@@ -3,7 +3,7 @@ use Rattle.std.specs.Prelude.{ℕ, ◌+◌, ◌*◌, ◌<◌, ◌≤◌, Bool, L
 use Rattle.std.specs.List.{concat}
 use Rattle.byteorder.specs.Endian.{little_bytes}
 use Rattle.sha1.specs.Sha1.{sha1}
-use Rattle.hz_file.specs.declared.kind.FunctionKind.TheVariants.{Script}
+use Rattle.hz_tree.specs.declared.tree.FunctionKind.TheVariants.{Script}
 use Rattle.hz_file.specs.Layout.{magic}
 use Rattle.hz_file.specs.Module.{Module}
 

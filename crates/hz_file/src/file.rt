@@ -7,7 +7,7 @@ ghost use Rattle.hz_file.specs.Module.{code_bytes, code_of, module_of, shown_fun
 ghost use Rattle.hz_file.specs.Opening.{rule};
 
 use crate::function::FunctionView;
-use crate::kind::FunctionKind;
+use crate::kind::kind_of_number;
 use crate::malformed::Malformed;
 use crate::numbers::{part, u16_at, u32_at, u64_at};
 use crate::sections::{self, Entry};
@@ -140,7 +140,7 @@ impl<'a> File<'a> {
     {
         let at = layout::FIRST_HEADER + 16 * k as usize;
         FunctionView {
-            kind: FunctionKind::of_number(self.bytes[at] / 4),
+            kind: kind_of_number(self.bytes[at] / 4),
             length: self.bytes[at + 1],
             registers: u16_at(self.bytes, at + 2) as u64,
             code: code(self.bytes, at),

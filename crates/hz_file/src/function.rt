@@ -1,4 +1,4 @@
-use crate::kind::FunctionKind;
+use hz_tree::FunctionKind;
 
 /// A function of a file.
 #[derive(Clone, Debug, Drop)]

@@ -26,7 +26,6 @@ mod writing;
 
 pub use file::{File, has_magic};
 pub use function::FunctionView;
-pub use kind::FunctionKind;
 pub use malformed::Malformed;
 pub use string::StringView;
 pub use texts::Texts;

@@ -3,6 +3,7 @@ mod reading;
 
 use super::*;
 use data::{SCRIPT, WIDE};
+use hz_tree::FunctionKind;
 use hz_value::Units;
 use reading::first_fault;
 use sha1::Sha1;
