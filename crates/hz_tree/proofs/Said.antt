@@ -47,7 +47,7 @@ said_after_name (initialised value more test update) =
 abbrev pub said_rests : Rests → List Event
 said_rests r =
     said_tree_option r.power ++ (said_operators r.operators ++ (said_operators r.logical
-        ++ (said_arms r.cond ++ (said_assign r.assign ++ said_trees r.comma))))
+    ++ (said_arms r.cond ++ (said_assign r.assign ++ said_trees r.comma))))
 
 abbrev pub said_after_left : AfterLeft → List Event
 said_after_left (target_of iteration tree) = events_of tree
@@ -200,7 +200,7 @@ module _ (reads_trees : Reader Value) (reads_events : Reader Events)
   say_then : (x : Symbol) (xs : List Symbol) (r : Reading (Part Value x))
       → ((ts : List Terminal) → read_all reads_events xs ts ≡ say_parts xs (read_all reads_trees xs ts))
       → and_then (say_part x r) (λ v rest. and_then (read_all reads_events xs rest) (λ vs end. Got (v, vs) end))
-          ≡ say_parts (x ∷ xs) (and_then r (λ v rest. and_then (read_all reads_trees xs rest) (λ vs end. Got (v, vs) end)))
+      ≡ say_parts (x ∷ xs) (and_then r (λ v rest. and_then (read_all reads_trees xs rest) (λ vs end. Got (v, vs) end)))
   say_then x xs (Got v rest) h =
       ap (λ y. and_then y (λ vs end. Got (said_part x v, vs) end)) (h rest) ∙ say_cons x xs v (read_all reads_trees xs rest)
   say_then x xs (Stuck cause ts) h = refl

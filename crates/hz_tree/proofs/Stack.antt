@@ -50,7 +50,7 @@ cons_got x xs v Deeper = refl
 
 cons_verdict : (x : Symbol) (xs : List Symbol) (r : Reading (Part Events x))
     → verdict (x ∷ xs) (and_then r (λ v rest. and_then (read_all tells xs rest) (λ vs end. Got (v, vs) end)))
-        ≡ follow (verdict_one x r) (λ rest. verdict xs (read_all tells xs rest))
+    ≡ follow (verdict_one x r) (λ rest. verdict xs (read_all tells xs rest))
 cons_verdict x xs (Got v rest) = cons_got x xs v (read_all tells xs rest)
 cons_verdict x xs (Stuck cause ts) = refl
 cons_verdict x xs Deeper = refl

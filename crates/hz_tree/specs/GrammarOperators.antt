@@ -48,8 +48,8 @@ assigned target (Some o) = t.Assign (place target) target o.0 o.1
 abbrev pub binary_row : (c : Context) → (level own : ℕ) → Class → BinaryOperator → Row (n.Operators level c)
 binary_row c level own one operator =
     if nat_le level own then
-        goes (Take one ∷ Read (n.Power c) ∷ Read (n.Operators (suc own) c) ∷ Read (n.Operators level c) ∷ [])
-            (λ (_, (operand, (tighter, (more, _)))). (operator, joined operand tighter) ∷ more)
+    goes (Take one ∷ Read (n.Power c) ∷ Read (n.Operators (suc own) c) ∷ Read (n.Operators level c) ∷ [])
+    (λ (_, (operand, (tighter, (more, _)))). (operator, joined operand tighter) ∷ more)
     else goes [] (λ _. [])
 
 abbrev pub in_row : (c : Context) → (level : ℕ) → (no_in : Bool) → Row (n.Operators level c)
@@ -93,7 +93,7 @@ logical_row c _ = goes [] (λ _. [])
 abbrev pub coalesce_row : (c : Context) → Class → Row (n.Coalesce c)
 coalesce_row c k.Nullish =
     goes (Take k.Nullish ∷ Read (n.Power c) ∷ Read (n.Operators 3 c) ∷ Read (n.Coalesce c) ∷ [])
-        (λ (_, (operand, (tighter, (more, _)))). (by.Nullish, joined operand tighter) ∷ more)
+    (λ (_, (operand, (tighter, (more, _)))). (by.Nullish, joined operand tighter) ∷ more)
 coalesce_row c _ = goes [] (λ _. [])
 
 -- ---- `**` and operators of one operand
