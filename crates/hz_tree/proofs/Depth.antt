@@ -1,5 +1,5 @@
 -- The bound on the depth is never met, and the reading is what the table says without a bound.
-use Rattle.std.proofs.Common.{◌≡◌, ℕ, zero, suc, ◌+◌, ◌*◌, ◌<◌, ◌≤◌, Bool, true, false, not, ◌&&◌, ◌||◌, cond, if◌then◌else◌, nat_lt, List, [], ◌∷◌, length, refl, ap, sym, ◌∙◌, subst, arith}
+use Rattle.std.proofs.Common.{◌≡◌, ℕ, zero, suc, ◌+◌, ◌*◌, ◌<◌, ◌≤◌, Bool, true, false, not, ◌&&◌, ◌||◌, if◌then◌else◌, nat_lt, List, [], ◌∷◌, length, refl, ap, sym, ◌∙◌, subst, arith}
 use Rattle.std.proofs.lemmas.Bool.Decides.{nat_tests}
 use Rattle.hz_tree.specs.declared.class.Class.{Class}
 use Rattle.hz_tree.specs.declared.nonterminal.Nonterminal.{Nonterminal}
@@ -7,9 +7,9 @@ use Rattle.hz_tree.specs.declared.symbol.Symbol.{Symbol}
 use Rattle.hz_tree.specs.declared.symbol.Symbol.TheVariants as s
 use Rattle.hz_tree.specs.Classes.{fits}
 use Rattle.hz_tree.specs.Look.{Terminal, Look, look, stuck}
-use Rattle.hz_tree.specs.Symbols.{Part, Parts, RowOf, goes, refuses}
+use Rattle.hz_tree.specs.Symbols.{RowOf, goes, refuses}
 use Rattle.hz_tree.specs.Grammar.{step_of}
-use Rattle.hz_tree.specs.Reading.{Reading, Got, Stuck, Deeper, and_then, takes, Reader, Table, read_one, read_all, by_row, reads_to, reads_by, enough}
+use Rattle.hz_tree.specs.Reading.{Reading, Got, Stuck, Deeper, and_then, takes, Reader, Table, read_one, read_all, by_row, reads_to}
 use Rattle.hz_tree.proofs.Ranks.{rank, eats, eats_symbol, eats_all, falls, is_fine, rank_small}
 
 -- all rows of a table let ranks fall

@@ -1,8 +1,7 @@
 -- The functions of short sources, and whether they say that they are strict code, computed.
-use Rattle.std.proofs.Common.{◌≡◌, ℕ, List, [], ◌∷◌, map, codes, true, false, Bool, Option, Some, None, refl}
+use Rattle.std.proofs.Common.{◌≡◌, [], ◌∷◌, map, codes, false, Some, None, refl}
 use Rattle.hz_tree.specs.declared.nonterminal.Nonterminal.TheVariants as n
 use Rattle.hz_tree.specs.declared.tree.FunctionKind.TheVariants as kind
-use Rattle.hz_tree.specs.declared.refusal.Refusal.{Refusal}
 use Rattle.hz_tree.specs.declared.refusal.Refusal.TheVariants.{Syntax, Sloppy}
 use Rattle.hz_tree.specs.Text.{run}
 use Rattle.hz_tree.specs.Characters.{code_point, char_len, is_white_space, is_line_terminator, starts_name, continues_name}
@@ -14,7 +13,7 @@ use Rattle.hz_tree.specs.Punctuators.{punctuator_of, punctuator_len}
 use Rattle.hz_tree.specs.Tokens.{sign, other, token, token_behind, tokens_from}
 use Rattle.hz_tree.specs.Classes.{class_by, same_class, same_bracket}
 use Rattle.hz_tree.specs.Look.{terminals}
-use Rattle.hz_tree.specs.Reading.{Got, Stuck, Deeper, Opened, Counted, Closed, reads, tells, reads_to, reads_by}
+use Rattle.hz_tree.specs.Reading.{Got, Opened, Counted, Closed, reads, tells, reads_to, reads_by}
 use Rattle.hz_tree.specs.Refusals.{refusal_by}
 
 sloppy :

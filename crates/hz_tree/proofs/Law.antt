@@ -1,13 +1,13 @@
 -- The reading without its bound on the depth: what the table's row for the next tokens says.
-use Rattle.std.proofs.Common.{◌≡◌, ℕ, zero, suc, ◌+◌, ◌*◌, ◌<◌, ◌≤◌, Bool, true, false, List, [], ◌∷◌, length, refl, ap, sym, ◌∙◌, arith}
+use Rattle.std.proofs.Common.{◌≡◌, ℕ, ◌+◌, ◌≤◌, Bool, List, [], ◌∷◌, length, refl, ap, sym, ◌∙◌, arith}
 use Rattle.hz_tree.specs.declared.nonterminal.Nonterminal.{Nonterminal}
 use Rattle.hz_tree.specs.declared.symbol.Symbol.{Symbol}
 use Rattle.hz_tree.specs.declared.symbol.Symbol.TheVariants as s
 use Rattle.hz_tree.specs.Look.{Terminal, look}
-use Rattle.hz_tree.specs.Symbols.{Part, Parts, RowOf, goes, refuses, Value}
+use Rattle.hz_tree.specs.Symbols.{RowOf, goes, refuses}
 use Rattle.hz_tree.specs.Grammar.{row, step_of}
 use Rattle.hz_tree.specs.Reading.{Reading, Got, Stuck, Deeper, and_then, Reader, Table, read_one, read_all, by_row, reads_to, reads_by, enough, reads, telling, event_row, tells}
-use Rattle.hz_tree.proofs.Ranks.{rank, eats, eats_symbol, eats_all, is_fine, rank_small}
+use Rattle.hz_tree.proofs.Ranks.{eats, eats_symbol, is_fine, rank_small}
 use Rattle.hz_tree.proofs.Depth.{Fine, count, Within, one_within, shrinks, Ends, reaches, agrees, same_depth}
 use Rattle.hz_tree.proofs.Table.{rows_fine}
 

@@ -1,5 +1,5 @@
 -- The events of a reading are those of its tree: row by row, what a row makes says what its parts say.
-use Rattle.std.proofs.Common.{◌≡◌, ℕ, zero, suc, Bool, true, false, cond, if◌then◌else◌, List, [], ◌∷◌, ◌++◌, map, Option, Some, None, refl, ap, sym, ◌∙◌, append_assoc, append-nil}
+use Rattle.std.proofs.Common.{◌≡◌, ℕ, zero, suc, Bool, true, false, if◌then◌else◌, List, [], ◌∷◌, ◌++◌, map, Option, Some, None, refl, ap, sym, ◌∙◌}
 use Rattle.hz_tree.specs.declared.class.Class.{Class}
 use Rattle.hz_tree.specs.declared.nonterminal.Nonterminal.{Nonterminal}
 use Rattle.hz_tree.specs.declared.nonterminal.Nonterminal.TheVariants as n
@@ -9,7 +9,7 @@ use Rattle.hz_tree.specs.declared.symbol.Symbol.{Symbol}
 use Rattle.hz_tree.specs.declared.symbol.Symbol.TheVariants as s
 use Rattle.hz_tree.specs.declared.tree.Tree.{Tree}
 use Rattle.hz_tree.specs.Look.{Terminal, Look, look}
-use Rattle.hz_tree.specs.Symbols.{Part, Parts, RowOf, goes, refuses, Value, Row, AfterKey, valued, called, AfterName, goes_over, initialised, AfterLeft, target_of, expression_of, Rests}
+use Rattle.hz_tree.specs.Symbols.{Part, Parts, goes, refuses, Value, Row, AfterKey, valued, called, AfterName, goes_over, initialised, AfterLeft, target_of, expression_of, Rests}
 use Rattle.hz_tree.specs.Grammar.{row}
 use Rattle.hz_tree.specs.Reading.{Reading, Got, Stuck, Deeper, and_then, takes, Reader, read_one, read_all, by_row, reads_to, reads_by, enough, Event, Events, told, telling, event_row, reads, tells}
 use Rattle.hz_tree.specs.Events.{said_all, said_option, said_parameters, events_of}

@@ -1,17 +1,16 @@
 -- The draft that the events of a tree build has the functions of the tree.
-use Rattle.std.proofs.Common.{◌≡◌, ℕ, zero, suc, ◌+◌, min, List, [], ◌∷◌, ◌++◌, length, map, Option, Some, None, refl, subst, ap, sym, ◌∙◌, append_assoc, append-nil, length-append, arith}
+use Rattle.std.proofs.Common.{◌≡◌, ℕ, ◌+◌, min, List, [], ◌∷◌, ◌++◌, length, map, Some, None, refl, subst, ap, sym, ◌∙◌, append_assoc, append-nil, length-append, arith}
 use Rattle.hz_tree.specs.declared.index.FunctionInfo.{FunctionInfo}
-use Rattle.hz_tree.specs.declared.nonterminal.Nonterminal.{Nonterminal}
 use Rattle.hz_tree.specs.declared.tree.Bound.{Bound}
 use Rattle.hz_tree.specs.declared.tree.FunctionKind.{FunctionKind}
 use Rattle.hz_tree.specs.declared.tree.Tree.{Tree, roll-Tree}
 use Rattle.hz_tree.specs.declared.tree.Tree.TheOpen.{Tree-F}
-use Rattle.hz_tree.specs.declared.tree.Tree.TheFolds.{fold-Tree, fold-roll-Tree, ind-Tree, map-Tree}
+use Rattle.hz_tree.specs.declared.tree.Tree.TheFolds.{fold-roll-Tree, ind-Tree, map-Tree}
 use Rattle.hz_tree.specs.Text.{Text}
-use Rattle.hz_tree.specs.Reading.{Event, Opened, Counted, Closed}
-use Rattle.hz_tree.specs.Events.{Said, said_all, said_option, said_parameters, said_function, said_layer, events_of}
-use Rattle.hz_tree.specs.Functions.{Found, none, both, in_all, in_option, in_function, in_layer, found_in, functions_of}
-use Rattle.hz_tree.specs.Drafts.{Draft, innermost, change, change_innermost, counted, ended, happens, built, begun}
+use Rattle.hz_tree.specs.Reading.{Event, Closed}
+use Rattle.hz_tree.specs.Events.{Said, said_all, said_parameters, said_function, said_layer, events_of}
+use Rattle.hz_tree.specs.Functions.{Found, none, both, in_all, in_function, in_layer, found_in, functions_of}
+use Rattle.hz_tree.specs.Drafts.{Draft, change, counted, ended, happens, built, begun}
 
 built_append : (d : Draft) (es fs : List Event) → built d (es ++ fs) ≡ built (built d es) fs
 built_append d [] fs = refl

@@ -1,7 +1,6 @@
 -- The turns that a stack of symbols takes: one less with each symbol that leaves it.
-use Rattle.std.proofs.Common.{◌≡◌, ℕ, zero, suc, ◌+◌, ◌*◌, ◌<◌, ◌≤◌, Bool, true, false, cond, if◌then◌else◌, List, [], ◌∷◌, ◌++◌, length, refl, ap, sym, ◌∙◌, subst, arith}
+use Rattle.std.proofs.Common.{◌≡◌, ℕ, zero, suc, ◌+◌, ◌*◌, ◌<◌, ◌≤◌, Bool, true, if◌then◌else◌, List, [], ◌∷◌, ◌++◌, length, refl, ap, sym, ◌∙◌, arith}
 use Rattle.hz_tree.specs.declared.class.Class.{Class}
-use Rattle.hz_tree.specs.declared.outside.BadKind.{BadKind}
 use Rattle.hz_tree.specs.declared.nonterminal.Nonterminal.{Nonterminal}
 use Rattle.hz_tree.specs.declared.symbol.Symbol.{Symbol}
 use Rattle.hz_tree.specs.declared.symbol.Symbol.TheVariants as s
@@ -10,7 +9,7 @@ use Rattle.hz_tree.specs.Classes.{fits}
 use Rattle.hz_tree.specs.Look.{Terminal, look, stuck}
 use Rattle.hz_tree.specs.Symbols.{Part, Parts, RowOf, goes, refuses}
 use Rattle.hz_tree.specs.Grammar.{row, Step, pushes, fails, step_of, step}
-use Rattle.hz_tree.specs.Reading.{Reading, Got, Stuck, Deeper, and_then, Reader, read_one, read_all, by_row, reads_to, reads_by, enough, Event, Events, told, telling, event_row, tells}
+use Rattle.hz_tree.specs.Reading.{Reading, Got, Stuck, Deeper, and_then, Reader, read_one, read_all, by_row, reads_to, reads_by, enough, Event, Events, telling, event_row, tells}
 use Rattle.hz_tree.specs.Stack.{Verdict, Through, At, Lost, verdict, ends, before, if_got, turns_one, turns_all, turns_row, turns_to, turns, work}
 use Rattle.hz_tree.proofs.Ranks.{rank, eats, eats_symbol, rank_small}
 use Rattle.hz_tree.proofs.Depth.{count, Within, one_within, shrinks, Ends, ends_first, reaches, agrees, agree_one, same_depth}

@@ -1,11 +1,11 @@
 -- Rows of the grammar: names, parameters and bodies of functions (ECMA-262, 15).
-use Rattle.std.specs.Prelude.{ℕ, Bool, true, false, if◌then◌else◌, List, [], ◌∷◌, Option, Some, None}
+use Rattle.std.specs.Prelude.{ℕ, Bool, if◌then◌else◌, List, [], ◌∷◌, Option, Some, None}
 use Rattle.hz_tree.specs.declared.class.Class.{Class}
 use Rattle.hz_tree.specs.declared.class.Class.TheVariants as k
 use Rattle.hz_tree.specs.declared.outside.BadKind.TheVariants as bad
 use Rattle.hz_tree.specs.declared.outside.OutsideKind.TheVariants as outside
 use Rattle.hz_tree.specs.declared.nonterminal.Nonterminal.TheVariants as n
-use Rattle.hz_tree.specs.declared.symbol.Symbol.TheVariants.{Take, Read, Open, Count, Close}
+use Rattle.hz_tree.specs.declared.symbol.Symbol.TheVariants.{Take, Read, Count}
 use Rattle.hz_tree.specs.declared.tree.Bound.{Bound}
 use Rattle.hz_tree.specs.declared.tree.Rest.{Rest}
 use Rattle.hz_tree.specs.declared.tree.FunctionKind.{FunctionKind}

@@ -1,5 +1,5 @@
 -- Rows of the grammar: operators (ECMA-262, 13.4 to 13.13), and the trees that they build.
-use Rattle.std.specs.Prelude.{ℕ, suc, Bool, true, false, not, ◌&&◌, ◌||◌, if◌then◌else◌, nat_le, List, [], ◌∷◌, Option, Some, None}
+use Rattle.std.specs.Prelude.{ℕ, suc, Bool, true, false, if◌then◌else◌, nat_le, List, [], ◌∷◌, Option, Some, None}
 use Rattle.hz_tree.specs.declared.class.Class.{Class}
 use Rattle.hz_tree.specs.declared.class.Class.TheVariants as k
 use Rattle.hz_tree.specs.declared.nonterminal.Context.{Context}
@@ -15,7 +15,7 @@ use Rattle.hz_tree.specs.declared.symbol.Symbol.TheVariants.{Take, Read}
 use Rattle.hz_tree.specs.declared.tree.Tree.{Tree}
 use Rattle.hz_tree.specs.declared.tree.Tree.TheVariants as t
 use Rattle.hz_tree.specs.Look.{Look}
-use Rattle.hz_tree.specs.Symbols.{goes, refuses, Row}
+use Rattle.hz_tree.specs.Symbols.{goes, Row}
 use Rattle.hz_tree.specs.Places.{place}
 
 -- ---- what the rests of an expression make of its beginning

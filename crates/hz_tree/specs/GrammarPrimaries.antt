@@ -1,12 +1,12 @@
 -- Rows of the grammar: left-hand sides, calls, primary expressions and templates (ECMA-262, 13.2 and 13.3).
-use Rattle.std.specs.Prelude.{ℕ, Bool, true, false, if◌then◌else◌, List, [], ◌∷◌, Option, Some, None}
+use Rattle.std.specs.Prelude.{ℕ, Bool, true, false, if◌then◌else◌, List, [], ◌∷◌, Some, None}
 use Rattle.hz_tree.specs.declared.class.Class.{Class}
 use Rattle.hz_tree.specs.declared.class.Class.TheVariants as k
 use Rattle.hz_tree.specs.declared.outside.BadKind.TheVariants as bad
 use Rattle.hz_tree.specs.declared.outside.OutsideKind.TheVariants as outside
 use Rattle.hz_tree.specs.declared.nonterminal.Context.{Context}
 use Rattle.hz_tree.specs.declared.nonterminal.Nonterminal.TheVariants as n
-use Rattle.hz_tree.specs.declared.symbol.Symbol.TheVariants.{Take, Read, Open, Count, Close}
+use Rattle.hz_tree.specs.declared.symbol.Symbol.TheVariants.{Take, Read, Open, Close}
 use Rattle.hz_tree.specs.declared.token.TokenKind.{TokenKind}
 use Rattle.hz_tree.specs.declared.token.TokenKind.TheVariants as token
 use Rattle.hz_tree.specs.declared.tree.FunctionKind.TheVariants as kind

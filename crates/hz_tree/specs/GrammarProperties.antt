@@ -1,5 +1,5 @@
 -- Rows of the grammar: the properties of object literals (ECMA-262, 13.2.5).
-use Rattle.std.specs.Prelude.{ℕ, Bool, true, false, not, ◌&&◌, if◌then◌else◌, List, [], ◌∷◌, Option, Some, None}
+use Rattle.std.specs.Prelude.{Bool, true, false, not, ◌&&◌, if◌then◌else◌, [], ◌∷◌, None}
 use Rattle.hz_tree.specs.declared.class.Class.{Class}
 use Rattle.hz_tree.specs.declared.class.Class.TheVariants as k
 use Rattle.hz_tree.specs.declared.outside.BadKind.TheVariants as bad
@@ -12,7 +12,7 @@ use Rattle.hz_tree.specs.declared.tree.Tree.{Tree}
 use Rattle.hz_tree.specs.declared.tree.Tree.TheVariants as t
 use Rattle.hz_tree.specs.Classes.{is_name, is_word}
 use Rattle.hz_tree.specs.Look.{Look, is_async, is_paren, stuck}
-use Rattle.hz_tree.specs.Symbols.{AfterKey, valued, called, goes, refuses, Row, with_in}
+use Rattle.hz_tree.specs.Symbols.{AfterKey, valued, called, goes, refuses, Row}
 use Rattle.hz_tree.specs.Places.{place}
 use Rattle.hz_tree.specs.GrammarFunctions.{function_tree}
 use Rattle.hz_tree.specs.GrammarPrimaries.{number_value, has_octal}

@@ -1,19 +1,18 @@
 -- Rows of the grammar: items and statements (ECMA-262, 14 and 16).
-use Rattle.std.specs.Prelude.{ℕ, Bool, true, false, ◌&&◌, ◌||◌, if◌then◌else◌, List, [], ◌∷◌, Option, Some, None}
+use Rattle.std.specs.Prelude.{Bool, true, false, ◌&&◌, if◌then◌else◌, [], ◌∷◌, Some, None}
 use Rattle.hz_tree.specs.declared.class.Class.{Class}
 use Rattle.hz_tree.specs.declared.class.Class.TheVariants as k
 use Rattle.hz_tree.specs.declared.outside.BadKind.TheVariants as bad
 use Rattle.hz_tree.specs.declared.outside.OutsideKind.TheVariants as outside
 use Rattle.hz_tree.specs.declared.nonterminal.Context.{Context}
 use Rattle.hz_tree.specs.declared.nonterminal.Nonterminal.TheVariants as n
-use Rattle.hz_tree.specs.declared.operator.DeclarationWord.{DeclarationWord}
 use Rattle.hz_tree.specs.declared.operator.DeclarationWord.TheVariants as word
-use Rattle.hz_tree.specs.declared.symbol.Symbol.TheVariants.{Take, Read, Open, Count, Close}
+use Rattle.hz_tree.specs.declared.symbol.Symbol.TheVariants.{Take, Read, Open, Close}
 use Rattle.hz_tree.specs.declared.tree.FunctionKind.TheVariants as kind
 use Rattle.hz_tree.specs.declared.tree.Tree.TheVariants as t
 use Rattle.hz_tree.specs.Look.{Look, is_async, stuck}
 use Rattle.hz_tree.specs.Classes.{is_name}
-use Rattle.hz_tree.specs.Symbols.{goes, refuses, Row, of_script, with_in}
+use Rattle.hz_tree.specs.Symbols.{goes, refuses, Row, of_script}
 use Rattle.hz_tree.specs.Places.{place}
 use Rattle.hz_tree.specs.GrammarFunctions.{function_tree}
 

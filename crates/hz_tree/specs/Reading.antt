@@ -1,6 +1,6 @@
 -- What the grammar makes of tokens. A reading never goes back: the table has one row for a nonterminal and the next
 -- two tokens.
-use Rattle.std.specs.Prelude.{ℕ, zero, suc, ◌+◌, ◌*◌, Bool, true, false, if◌then◌else◌, List, [], ◌∷◌, ◌++◌, length}
+use Rattle.std.specs.Prelude.{ℕ, zero, suc, ◌+◌, ◌*◌, if◌then◌else◌, List, [], ◌∷◌, ◌++◌, length}
 use Rattle.hz_tree.specs.declared.class.Class.{Class}
 use Rattle.hz_tree.specs.declared.outside.BadKind.{BadKind}
 use Rattle.hz_tree.specs.declared.outside.BadKind.TheVariants as bad
