@@ -1,0 +1,50 @@
+// Scans each of some copies of a file some times over, and prints how many tokens it has:
+// hz_scan_bench FILE COPIES ROUNDS. The script bench/scanner measures it.
+#![tactic(auto)]
+
+use hz_scan::{Braces, Scanner};
+use std::alloc::{AllocError, Global};
+use std::{env, fs, io};
+
+/// How many tokens the source has, the last one included.
+fn count_tokens(alloc: Global, source: &[u8]) -> Result<u64, AllocError> {
+    let mut scanner = Scanner::new(source);
+    let mut braces = Braces::new(alloc);
+    for earlier in 0..u64::MAX {
+        let token = scanner.next(braces.in_hole());
+        if token.kind.is_last() {
+            return Ok(earlier + 1);
+        }
+        braces.follow(&token)?;
+    }
+    Ok(u64::MAX)
+}
+
+/// The number that a word on the command line says, or 1.
+fn number(word: &Option<String>) -> u32 {
+    match word {
+        Some(text) => text.parse().unwrap_or(1),
+        None => 1,
+    }
+}
+
+fn main(rt: HostRuntime) -> io::Result<()> {
+    let mut words = env::args(&rt)?;
+    let _program = words.next();
+    let Some(path) = words.next() else {
+        return Ok(());
+    };
+    let copies = number(&words.next());
+    let rounds = number(&words.next());
+    let mut sources = Vec::new(rt.alloc());
+    for _ in 0..copies {
+        sources.push(fs::read(&rt, path.as_str())?)?;
+    }
+    let mut tokens = 0;
+    for _ in 0..rounds {
+        for source in &sources {
+            tokens = count_tokens(rt.alloc(), source)?;
+        }
+    }
+    println!(rt; "{tokens} tokens")
+}

@@ -1,0 +1,4 @@
+pub mod TextLemmas
+pub mod TokenLemmas
+pub mod Rows
+pub mod PlaceLemmas

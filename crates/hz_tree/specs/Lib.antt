@@ -1,0 +1,8 @@
+pub mod Text
+pub mod Characters
+pub mod Spaces
+pub mod Names
+pub mod Numbers
+pub mod Literals
+pub mod Punctuators
+pub mod Tokens
