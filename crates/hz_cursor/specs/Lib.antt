@@ -1,0 +1,4 @@
+pub mod Spelling
+pub mod Arrows
+pub mod Terminal
+pub mod Cursor
