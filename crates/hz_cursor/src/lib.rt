@@ -2,12 +2,14 @@
 #![tactic(auto)]
 
 mod class;
+mod mark;
 mod signs;
 mod spelling;
+mod tally;
 mod terminal;
 mod words;
 
-pub use class::bad_class;
-pub use signs::sign_class;
+pub use class::{bracketing, class_of, fits};
 pub use terminal::{Look, Terminal};
-pub use words::{name_class, word_class};
+pub use mark::Mark;
+pub use tally::Tally;
