@@ -1,1 +1,4 @@
 pub mod SpellingLemmas
+pub mod TallyLemmas
+pub mod AnswerLemmas
+pub mod ArrowLemmas

@@ -1,6 +1,7 @@
 // The terminals of a source one after the other, as the readers of the grammar take them.
 #![tactic(auto)]
 
+mod arrows;
 mod class;
 mod mark;
 mod signs;
@@ -9,7 +10,6 @@ mod tally;
 mod terminal;
 mod words;
 
+pub use arrows::arrow_flags;
 pub use class::{bracketing, class_of, fits};
 pub use terminal::{Look, Terminal};
-pub use mark::Mark;
-pub use tally::Tally;
