@@ -3,13 +3,15 @@
 
 mod arrows;
 mod class;
+mod cursor;
 mod mark;
 mod signs;
 mod spelling;
 mod tally;
 mod terminal;
+mod terminals;
 mod words;
 
-pub use arrows::arrow_flags;
 pub use class::{bracketing, class_of, fits};
+pub use cursor::Cursor;
 pub use terminal::{Look, Terminal};
