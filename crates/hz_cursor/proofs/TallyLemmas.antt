@@ -58,10 +58,12 @@ turn_goes source tally new opened s after hole t under holes is after_is more ne
     let next = some_next opened source s after hole t under.source_same under.not_ended holes is after_is more in
     let cs = map class_of (tokens_from (braces t opened) source after.place) in
     let all : tally.marks ++ marks_from tally.closed tally.opened (class_of t ∷ cs) ≡ marks_from false [] (map class_of (tokens source))
-    = rw next.list at under.marks in
-    (record {
-      marks = rw new_is (sym (follows (class_of t) tally cs) ∙ all);
-      source_same = next.source_same;
-      not_ended = next.not_ended;
-      inside = next.inside;
-    }, next.later)
+    = rw next.list at under.marks in (
+      record {
+        marks = rw new_is (sym (follows (class_of t) tally cs) ∙ all);
+        source_same = next.source_same;
+        not_ended = next.not_ended;
+        inside = next.inside;
+      },
+      next.later,
+    )

@@ -1,4 +1,4 @@
-use crate::class::fits;
+use crate::kinds::fits;
 use crate::terminal::{Look, Terminal};
 use crate::terminals::Terminals;
 use hz_tree::Class;
