@@ -1,0 +1,21 @@
+-- The loop over the parts at the front of a text.
+use Rattle.std.proofs.Common.{◌≡◌, ℕ, ◌≤◌, ◌+◌, Bool, ◌||◌, length, drop, refl, add-zero, ◌∙◌, ap, sym}
+use Rattle.std.proofs.Math.Bool.{or-false}
+use Rattle.hz_tree.specs.declared.front.Part.{Part}
+use Rattle.hz_tree.specs.Text.{Text, none, joined, run}
+use Rattle.hz_tree.proofs.TextLemmas.{run_stops, joined_goes}
+
+pub joined_none : (front : Part) → joined front none ≡ front
+joined_none front = rw (add-zero front.len, or-false front.marked) refl
+
+pub joined_stops : (part : Text → Part) (z : Text) (front : Part) → (part z).len ≡ 0 → joined front (run part z) ≡ front
+joined_stops part z front stops = ap (joined front) (run_stops part z stops) ∙ joined_none front
+
+-- behind one more part
+pub goes_on : (part : Text → Part) (z after : Text) (front whole p : Part) → joined front (run part z) ≡ whole
+    → p ≡ part z → 1 ≤ p.len → p.len ≤ length z → after ≡ drop p.len z
+    → joined (joined front p) (run part after) ≡ whole
+goes_on part z after front whole p so_far is moves within behind =
+    let known : joined front (run part z) ≡ joined (joined front (part z)) (run part (drop (part z).len z)) =
+    joined_goes part z front (rw (← is) moves) (rw (← is) within) in
+    rw (behind, is) (sym known ∙ so_far)

@@ -1,0 +1,3 @@
+pub mod TextLemmas
+pub mod TokenLemmas
+pub mod Rows

@@ -1,0 +1,58 @@
+/// Why no token begins at a place.
+#[derive(Clone, Copy, Debug, PartialEq, Eq)]
+pub enum BadKind {
+    /// An error of syntax.
+    Syntax,
+
+    /// A part of ECMAScript that this compiler leaves out.
+    Outside(OutsideKind),
+}
+
+/// The parts of ECMAScript's syntax that this compiler leaves out.
+#[derive(Clone, Copy, Debug, PartialEq, Eq)]
+pub enum OutsideKind {
+    /// `class`.
+    Class,
+
+    /// Async functions, arrows and loops, and `await`.
+    Async,
+
+    /// `import` and `export`.
+    Module,
+
+    /// `with`.
+    With,
+
+    /// A regular expression literal.
+    RegExp,
+
+    /// A numeric literal that ends with `n`.
+    BigInt,
+
+    /// A numeric literal with a fraction or an exponent, or above 9007199254740991.
+    NumberForm,
+
+    /// A template behind an expression.
+    TaggedTemplate,
+
+    /// A pattern that takes an array or an object apart.
+    Pattern,
+
+    /// A parameter with a default value.
+    DefaultParameter,
+
+    /// `super`.
+    Super,
+
+    /// A name that begins with `#`.
+    PrivateName,
+
+    /// A name with an escape in it.
+    IdentifierEscape,
+
+    /// `<!--`, or `-->` as the first token on its line.
+    HtmlComment,
+
+    /// A character past ASCII that neither begins a name nor separates tokens.
+    Character,
+}
