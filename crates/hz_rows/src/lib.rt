@@ -1,0 +1,17 @@
+// The rows of the grammar for a reader with a stack of symbols.
+//
+// The layer above relies on `expand`: what it does to the stack, or the cause with which it refuses, is the row that
+// hz_tree's table (`specs/Grammar.antt`) has for the nonterminal and the next two tokens.
+#![tactic(auto)]
+
+mod classes;
+mod contexts;
+mod functions;
+mod look;
+mod stack;
+mod statements;
+mod stop;
+
+pub use look::Look;
+pub use stack::Stack;
+pub use stop::Stop;
