@@ -6,7 +6,9 @@
 
 mod classes;
 mod contexts;
+mod expressions;
 mod functions;
+mod heads;
 mod look;
 mod stack;
 mod statements;
