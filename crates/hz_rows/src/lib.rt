@@ -16,7 +16,9 @@ mod properties;
 mod stack;
 mod statements;
 mod stop;
+mod table;
 
 pub use look::Look;
 pub use stack::Stack;
 pub use stop::Stop;
+pub use table::expand;
