@@ -1,21 +1,15 @@
 -- The functions of a tree, in the order of the places at which they start.
 use Rattle.std.specs.Prelude.{ℕ, zero, suc, ◌+◌, List, [], ◌∷◌, ◌++◌, length, Option, Some, None, min}
+use Rattle.hz_tree.specs.declared.index.FunctionInfo.{FunctionInfo}
 use Rattle.hz_tree.specs.declared.tree.FunctionKind.{FunctionKind}
 use Rattle.hz_tree.specs.declared.tree.FunctionKind.TheVariants as kind
 use Rattle.hz_tree.specs.declared.tree.Tree.{Tree, fold-Tree}
 use Rattle.hz_tree.specs.declared.tree.Tree.TheOpen.{Tree-F}
 use Rattle.hz_tree.specs.Text.{Text}
 
-pub record FunctionFacts : Type 0 where
-  pub start : ℕ
-  pub end : ℕ
-  pub kind : FunctionKind
-  pub length : ℕ           -- the parameters but the rest one; 255 stands for all greater numbers too
-  pub parent : Option ℕ    -- the number of the function round it
-
--- the functions in a tree, where the function round it has the number `parent` and the next number is `next`
+-- The functions in a tree, where the function round it has the number `parent` and the next number is `next`.
 abbrev pub Found : Type 0
-Found = (parent next : ℕ) → List FunctionFacts
+Found = (parent next : ℕ) → List FunctionInfo
 
 abbrev pub none : Found
 none parent next = []
@@ -109,6 +103,6 @@ unfoldable pub found_in : Tree → Found
 found_in = fold-Tree Found in_layer
 
 -- The functions of a script with this tree. The script is function 0, and its extent is the whole source.
-unfoldable pub functions_of : Text → Tree → List FunctionFacts
+unfoldable pub functions_of : Text → Tree → List FunctionInfo
 functions_of source tree =
     record { start = 0; end = length source; kind = kind.Script; length = 0; parent = None } ∷ found_in tree 0 1

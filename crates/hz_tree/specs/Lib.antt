@@ -21,3 +21,6 @@ pub mod Grammar
 pub mod Reading
 pub mod Functions
 pub mod Refusals
+pub mod Shown
+pub mod Stack
+pub mod Events

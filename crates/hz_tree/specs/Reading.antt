@@ -27,8 +27,8 @@ and_then Deeper next = Deeper
 
 -- a token of a class
 abbrev pub takes : Class → List Terminal → Reading Terminal
-takes class [] = Stuck bad.Syntax []
-takes class (x ∷ ts) = if fits class x.class then Got x ts else Stuck (stuck (look (x ∷ ts))) (x ∷ ts)
+takes wanted [] = Stuck bad.Syntax []
+takes wanted (x ∷ ts) = if fits wanted x.class then Got x ts else Stuck (stuck (look (x ∷ ts))) (x ∷ ts)
 
 -- the place of the next token
 abbrev pub place_ahead : List Terminal → ℕ
@@ -47,7 +47,7 @@ abbrev pub Reader : (Value : Nonterminal → Type 0) → Type 0
 Reader Value = (nonterminal : Nonterminal) → List Terminal → Reading (Value nonterminal)
 
 abbrev pub read_one : {Value : Nonterminal → Type 0} → Reader Value → (symbol : Symbol) → List Terminal → Reading (Part Value symbol)
-read_one reads (s.Take class) ts = takes class ts
+read_one reads (s.Take wanted) ts = takes wanted ts
 read_one reads (s.Read nonterminal) ts = reads nonterminal ts
 read_one reads (s.Open kind) ts = Got (place_ahead ts) ts
 read_one reads s.Count ts = Got tt ts
@@ -93,7 +93,7 @@ Events nonterminal = List Event
 
 abbrev pub told : (right : List Symbol) → Parts Events right → List Event
 told [] parts = []
-told (s.Take class ∷ more) parts = told more parts.1
+told (s.Take wanted ∷ more) parts = told more parts.1
 told (s.Read nonterminal ∷ more) parts = parts.0 ++ told more parts.1
 told (s.Open kind ∷ more) parts = Opened kind parts.0 ∷ told more parts.1
 told (s.Count ∷ more) parts = Counted ∷ told more parts.1

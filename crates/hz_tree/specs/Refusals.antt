@@ -13,7 +13,8 @@ use Rattle.hz_tree.specs.Text.{Text}
 use Rattle.hz_tree.specs.Look.{Terminal, terminals}
 use Rattle.hz_tree.specs.Places.{Layer}
 use Rattle.hz_tree.specs.Reading.{Reading, Got, Stuck, Deeper, reads, place_ahead}
-use Rattle.hz_tree.specs.Functions.{FunctionFacts, functions_of}
+use Rattle.hz_tree.specs.declared.index.FunctionInfo.{FunctionInfo}
+use Rattle.hz_tree.specs.Functions.{functions_of}
 
 -- ---- directives (ECMA-262, 11.2.1)
 
@@ -70,10 +71,10 @@ refusal_of source strict =
 
 -- ---- functions
 
-abbrev pub functions_by : Text → Reading Tree → List FunctionFacts
+abbrev pub functions_by : Text → Reading Tree → List FunctionInfo
 functions_by source (Got tree ts) = functions_of source tree
 functions_by source _ = []
 
 -- the functions of a source that is not refused
-unfoldable pub functions : Text → List FunctionFacts
+unfoldable pub functions : Text → List FunctionInfo
 functions source = functions_by source (reads n.Script (terminals source))

@@ -20,7 +20,7 @@ use Rattle.hz_tree.specs.Look.{Terminal}
 
 -- What a symbol gives: a token, what a nonterminal gives, the place of the next token, or the end of the last one.
 abbrev pub Part : (Value : Nonterminal → Type 0) → Symbol → Type 0
-Part Value (s.Take class) = Terminal
+Part Value (s.Take wanted) = Terminal
 Part Value (s.Read nonterminal) = Value nonterminal
 Part Value (s.Open kind) = ℕ
 Part Value s.Count = Unit {0}

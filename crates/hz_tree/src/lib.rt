@@ -8,6 +8,7 @@
 
 mod class;
 mod front;
+mod index;
 mod nonterminal;
 mod operator;
 mod outside;
@@ -18,6 +19,7 @@ mod tree;
 
 pub use class::{Bracket, Bracketing, Class};
 pub use front::{Front, Part};
+pub use index::{FunctionInfo, FunctionInfos};
 pub use nonterminal::{Context, Nonterminal};
 pub use operator::{
     AssignOperator, BinaryOperator, DeclarationWord, Iteration, UnaryOperator, UpdateOperator,
