@@ -1,5 +1,5 @@
 -- One turn of the list of tokens.
-use Rattle.std.proofs.Common.{◌≡◌, ℕ, ◌+◌, ◌<◌, ◌≤◌, Bool, true, false, cond, Option, None, is_some, unwrap_or, List, [], ◌∷◌, ◌++◌, length, refl, ap, sym, ◌∙◌, append_assoc, arith}
+use Rattle.std.proofs.Common.{◌≡◌, ℕ, ◌+◌, ◌<◌, ◌≤◌, Bool, true, false, None, List, [], ◌∷◌, ◌++◌, length, refl, ◌∙◌, append_assoc}
 use Rattle.hz_tree.specs.Text.{Text}
 use Rattle.hz_tree.specs.Tokens.{Lexeme, token_behind, is_last, braces, in_hole, tokens_from}
 use Rattle.hz_tree.proofs.TokenLemmas.{tokens_law, token_behind_moves}

@@ -1,5 +1,5 @@
 -- The value of digits, kept at most at a bound on the way.
-use Rattle.std.proofs.Common.{◌≡◌, ℕ, suc, ◌+◌, ◌*◌, ◌≤◌, ◌<◌, min, Bool, true, false, cond, ◌==◌, nat_le, refl, List, [], ◌∷◌, length, get_or, drop, drop-cons, add-one, sym, ◌∙◌, ap, arith}
+use Rattle.std.proofs.Common.{◌≡◌, ℕ, suc, ◌+◌, ◌*◌, ◌≤◌, ◌<◌, min, true, false, cond, ◌==◌, nat_le, refl, List, [], ◌∷◌, length, get_or, drop, drop-cons, add-one, sym, ◌∙◌, ap, arith}
 use Rattle.std.proofs.Math.Nat.{le-mul_of_pos_right, mul-le-mul_right}
 use Rattle.std.proofs.lemmas.Bool.Decides.{nat_tests}
 use Rattle.std.specs.Char.{digit_value}

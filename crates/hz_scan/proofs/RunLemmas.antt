@@ -1,5 +1,5 @@
 -- The loop over the parts at the front of a text.
-use Rattle.std.proofs.Common.{◌≡◌, ℕ, ◌≤◌, ◌+◌, Bool, ◌||◌, length, drop, refl, add-zero, ◌∙◌, ap, sym}
+use Rattle.std.proofs.Common.{◌≡◌, ◌≤◌, length, drop, refl, add-zero, ◌∙◌, ap, sym}
 use Rattle.std.proofs.Math.Bool.{or-false}
 use Rattle.hz_tree.specs.declared.front.Part.{Part}
 use Rattle.hz_tree.specs.Text.{Text, none, joined, run}

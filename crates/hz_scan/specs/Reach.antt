@@ -1,5 +1,5 @@
 -- How far a punctuator goes.
-use Rattle.std.specs.Prelude.{◌≡◌, ◌≢◌, ◌<◌, ◌≤◌, ℕ}
+use Rattle.std.specs.Prelude.{◌≢◌, ◌<◌, ◌≤◌, ℕ}
 
 -- a spelling of this length goes on only where a byte stands, which is not 0
 abbrev pub Reaches : (len second third fourth : ℕ) → Type 0

@@ -9,6 +9,7 @@ mod braces;
 mod bytes;
 mod characters;
 mod escapes;
+mod first;
 mod front;
 mod list;
 mod literals;
@@ -22,5 +23,6 @@ mod spaces;
 mod tests;
 
 pub use braces::Braces;
+pub use first::first_token_len;
 pub use list::list_tokens;
 pub use scanner::Scanner;

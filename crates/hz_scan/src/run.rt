@@ -29,7 +29,6 @@ pub fn plain(len: usize) -> Part
 }
 
 /// All the parts at the front of the text, as one.
-
 pub fn run<P: Repeats>(parts: &P, mut z: &[u8]) -> Part
     ensures value { result ≡ spec.run (P.part_of parts.now) z.entry.now }
     ensures within { result.len ≤ length z.entry.now }

@@ -1,4 +1,5 @@
-// Scans a file some times over and prints how many tokens it has. The script bench/scanner measures it.
+// Scans each of some copies of a file some times over, and prints how many tokens it has:
+// hz_scan_bench FILE COPIES ROUNDS. The script bench/scanner measures it.
 #![tactic(auto)]
 
 use hz_scan::{Braces, Scanner};
@@ -19,21 +20,31 @@ fn count_tokens(alloc: Global, source: &[u8]) -> Result<u64, AllocError> {
     Ok(u64::MAX)
 }
 
+/// The number that a word on the command line says, or 1.
+fn number(word: &Option<String>) -> u32 {
+    match word {
+        Some(text) => text.parse().unwrap_or(1),
+        None => 1,
+    }
+}
+
 fn main(rt: HostRuntime) -> io::Result<()> {
     let mut words = env::args(&rt)?;
     let _program = words.next();
-    if let Some(path) = words.next() {
-        let rounds = words.next();
-        let rounds: u32 = match &rounds {
-            Some(text) => text.parse().unwrap_or(1),
-            None => 1,
-        };
-        let source = fs::read(&rt, path.as_str())?;
-        let mut tokens = 0;
-        for _ in 0..rounds {
-            tokens = count_tokens(rt.alloc(), &source)?;
-        }
-        println!(rt; "{tokens} tokens")?;
+    let Some(path) = words.next() else {
+        return Ok(());
+    };
+    let copies = number(&words.next());
+    let rounds = number(&words.next());
+    let mut sources = Vec::new(rt.alloc());
+    for _ in 0..copies {
+        sources.push(fs::read(&rt, path.as_str())?)?;
     }
-    Ok(())
+    let mut tokens = 0;
+    for _ in 0..rounds {
+        for source in &sources {
+            tokens = count_tokens(rt.alloc(), source)?;
+        }
+    }
+    println!(rt; "{tokens} tokens")
 }

@@ -11,3 +11,4 @@ pub mod Stack
 pub mod Work
 pub mod EventLaws
 pub mod Said
+pub mod PlaceLemmas

@@ -1,5 +1,5 @@
 -- What a run of parts makes of its first part.
-use Rattle.std.proofs.Common.{◌≡◌, ◌≢◌, ℕ, zero, suc, ◌+◌, ◌-◌, ◌<◌, ◌≤◌, Bool, true, false, ◌||◌, cond, ◌==◌, List, [], ◌∷◌, drop, length, refl, sym, ap, ◌∙◌, arith, add_assoc}
+use Rattle.std.proofs.Common.{◌≡◌, ℕ, zero, suc, ◌-◌, ◌≤◌, true, false, ◌==◌, [], ◌∷◌, drop, length, refl, ap, arith, add_assoc}
 use Rattle.std.proofs.Math.Bool.{or_assoc}
 use Rattle.hz_tree.specs.declared.front.Part.{Part}
 use Rattle.hz_tree.specs.Text.{Text, none, joined, run_from, run}

@@ -1,5 +1,5 @@
 -- A token that is not the last one has a byte, and so the list of tokens needs no bound on its length.
-use Rattle.std.proofs.Common.{◌≡◌, ℕ, zero, suc, ◌+◌, ◌-◌, ◌<◌, ◌≤◌, min, Bool, true, false, ◌||◌, ◌&&◌, cond, if◌then◌else◌, ◌==◌, nat_lt, List, [], ◌∷◌, length, take, drop, slice_index, slice_range, refl, ap, sym, ◌∙◌, arith}
+use Rattle.std.proofs.Common.{◌≡◌, ℕ, zero, suc, ◌+◌, ◌-◌, ◌<◌, ◌≤◌, min, Bool, true, false, ◌||◌, ◌&&◌, cond, if◌then◌else◌, ◌==◌, nat_lt, List, [], ◌∷◌, length, drop, slice_index, slice_range, refl, ap, arith}
 use Rattle.std.proofs.lemmas.List.{length-take, length-drop, drop_all}
 use Rattle.std.proofs.lemmas.Bool.Decides.{nat_tests}
 use Rattle.hz_tree.specs.declared.front.Front.{Front}
@@ -15,7 +15,6 @@ use Rattle.hz_tree.specs.Spaces.{gap}
 use Rattle.hz_tree.specs.Names.{name}
 use Rattle.hz_tree.specs.Numbers.{bad, literal, valued, non_decimal, decimal, number}
 use Rattle.hz_tree.specs.Literals.{text, template}
-use Rattle.hz_tree.specs.Punctuators.{punctuator_len}
 use Rattle.hz_tree.specs.Tokens.{Lexeme, sign, other, is_html_comment, token, token_behind, is_last, braces, in_hole, tokens_to, tokens_from}
 
 -- the token has a byte, unless it is the last one

@@ -1,5 +1,5 @@
 -- Numeric literals (ECMA-262, 12.9.3), as far as they stand for integers up to 9007199254740991.
-use Rattle.std.specs.Prelude.{ℕ, ◌+◌, ◌-◌, ◌*◌, Bool, ◌&&◌, ◌||◌, if◌then◌else◌, ◌==◌, nat_lt, List, [], ◌∷◌, take, drop, slice_index}
+use Rattle.std.specs.Prelude.{ℕ, ◌+◌, ◌*◌, ◌&&◌, ◌||◌, if◌then◌else◌, ◌==◌, nat_lt, [], ◌∷◌, take, drop, slice_index}
 use Rattle.std.specs.Char.{is_ascii_digit, digit_value, is_digit}
 use Rattle.std.specs.List.{prefix_len}
 use Rattle.hz_tree.specs.declared.front.Front.{Front}

@@ -1,5 +1,5 @@
 -- Punctuators (ECMA-262, 12.8).
-use Rattle.std.specs.Prelude.{ℕ, Bool, ◌&&◌, if◌then◌else◌, List, [], ◌∷◌, ◌++◌, length, slice_index, codes}
+use Rattle.std.specs.Prelude.{ℕ, ◌&&◌, if◌then◌else◌, List, [], ◌∷◌, length, slice_index, codes}
 use Rattle.std.specs.Char.{is_ascii_digit}
 use Rattle.hz_tree.specs.Text.{Text, begins}
 

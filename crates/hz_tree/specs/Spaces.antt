@@ -1,5 +1,5 @@
 -- What separates tokens: white space, line terminators and comments (ECMA-262, 12.2 to 12.5).
-use Rattle.std.specs.Prelude.{ℕ, ◌+◌, Bool, true, ◌&&◌, if◌then◌else◌, drop, codes}
+use Rattle.std.specs.Prelude.{◌+◌, Bool, true, ◌&&◌, if◌then◌else◌, drop, codes}
 use Rattle.hz_tree.specs.declared.front.Part.{Part}
 use Rattle.hz_tree.specs.Text.{Text, begins, none, plain, joined, run}
 use Rattle.hz_tree.specs.Characters.{code_point, char_len, is_white_space, is_line_terminator}

@@ -1,8 +1,7 @@
 -- The tokens of a source (ECMA-262, clause 12), where `/` never begins a regular expression.
-use Rattle.std.specs.Prelude.{ℕ, zero, suc, ◌+◌, ◌-◌, Bool, true, false, ◌&&◌, ◌||◌, if◌then◌else◌, ◌==◌, nat_le, List, [], ◌∷◌, length, take, drop, slice_index, slice_range, slice_index_or, codes}
+use Rattle.std.specs.Prelude.{ℕ, zero, suc, ◌+◌, ◌-◌, Bool, true, false, ◌&&◌, ◌||◌, if◌then◌else◌, ◌==◌, nat_le, List, [], ◌∷◌, length, drop, slice_index, slice_range, slice_index_or, codes}
 use Rattle.std.specs.Char.{is_ascii_digit}
 use Rattle.hz_tree.specs.declared.front.Front.{Front}
-use Rattle.hz_tree.specs.declared.front.Part.{Part}
 use Rattle.hz_tree.specs.declared.outside.BadKind.TheVariants.{Syntax, Outside}
 use Rattle.hz_tree.specs.declared.outside.OutsideKind.TheVariants.{NumberForm, PrivateName, IdentifierEscape, HtmlComment, Character}
 use Rattle.hz_tree.specs.declared.token.Token.{Token}

@@ -1,7 +1,7 @@
-use Rattle.std.proofs.Common.{rules, arith, ap, sym, ◌∙◌, ◌≡◌, ◌++◌, ◌∷◌, [], map}
+use Rattle.std.proofs.Common.{arith, sym, ◌∙◌, ◌≡◌, ◌++◌, ◌∷◌, [], map}
 use Rattle.std.proofs.lemmas.List.{map-append}
 use Rattle.hz_tree.specs.Tokens as spec
-use Rattle.hz_scan.proofs.ListLemmas.{turn_ends, Turned, turn_goes}
+use Rattle.hz_scan.proofs.ListLemmas.{turn_ends, turn_goes}
 use Rattle.hz_scan.proofs.list.list_tokens.Goals as goal
 
 pub returns-then-is_last : goal.returns-then-is_last

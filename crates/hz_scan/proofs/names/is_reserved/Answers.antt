@@ -1,6 +1,5 @@
 use Rattle.std.proofs.Common.{◌≡◌, ℕ, ◌||◌, ◌==◌, false, Bool, List, slice_index, refl, sym, ◌∙◌, arith}
 use Rattle.std.proofs.lemmas.Bool.Decides.{nat_tests}
-use Rattle.std.specs.List.{list_any}
 use Rattle.hz_tree.specs.Names.{is_reserved, reserved_words}
 use Rattle.hz_scan.proofs.WordLemmas.{alike, none_among}
 use Rattle.hz_scan.proofs.names.is_reserved.Goals as goal
