@@ -2,13 +2,15 @@
 
 ghost use Rattle.hz_tree.specs.Grammar.{step_of};
 ghost use Rattle.hz_tree.specs.GrammarExpressions as row;
+ghost use Rattle.hz_cursor.specs.Terminal.{seen};
 ghost use Rattle.hz_rows.specs.Pushed.{Pushed};
 
 use crate::classes::is_paren;
 use crate::contexts::{of_arrow, with_in};
-use crate::look::Look;
+use crate::look::begins_arrow;
 use crate::stack::Stack;
 use crate::stop::{Stop, stuck};
+use hz_cursor::Look;
 use hz_tree::Nonterminal::{
     ArrowBody, ArrowSign, Assign, AssignRest, Body, Bound, CondRest, ExprRest, Logical, Operators,
     Params, Power, YieldValue,
@@ -59,7 +61,7 @@ fn arrow_row(stack: &mut Stack, context: Context, parenthesised: bool) -> Result
 }
 
 pub fn arrow_sign_row(stack: &mut Stack, look: Look) -> Result<(), Stop>
-    ensures { Pushed (step_of (row.arrow_sign_row look)) result stack.old stack.new }
+    ensures { Pushed (step_of (row.arrow_sign_row (seen look))) result stack.old stack.new }
 {
     if look.one_newline {
         stuck(look)
@@ -78,7 +80,7 @@ pub fn arrow_body_row(stack: &mut Stack, context: Context, one: Class) -> Result
 }
 
 pub fn yield_value_row(stack: &mut Stack, context: Context, look: Look) -> Result<(), Stop>
-    ensures { Pushed (step_of (row.yield_value_row context look)) result stack.old stack.new }
+    ensures { Pushed (step_of (row.yield_value_row context (seen look))) result stack.old stack.new }
 {
     if look.one_newline {
         return Ok(());
@@ -129,9 +131,9 @@ fn assign_by(stack: &mut Stack, context: Context, one: Class) -> Result<(), Stop
 }
 
 pub fn assign_row(stack: &mut Stack, context: Context, look: Look) -> Result<(), Stop>
-    ensures { Pushed (step_of (row.assign_row context look)) result stack.old stack.new }
+    ensures { Pushed (step_of (row.assign_row context (seen look))) result stack.old stack.new }
 {
-    if look.begins_arrow() {
+    if begins_arrow(look) {
         arrow_row(stack, context, is_paren(look.one))
     } else {
         assign_by(stack, context, look.one)

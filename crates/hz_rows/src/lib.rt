@@ -18,7 +18,6 @@ mod statements;
 mod stop;
 mod table;
 
-pub use look::Look;
 pub use stack::Stack;
 pub use stop::Stop;
 pub use table::expand;

@@ -4,11 +4,12 @@ ghost use Rattle.std.specs.Prelude.{◌≤◌};
 ghost use Rattle.hz_tree.specs.declared.operator.BinaryOperator.{BinaryOperator};
 ghost use Rattle.hz_tree.specs.Grammar.{step_of};
 ghost use Rattle.hz_tree.specs.GrammarOperators as row;
+ghost use Rattle.hz_cursor.specs.Terminal.{seen};
 ghost use Rattle.hz_rows.specs.Pushed.{Pushed};
 
-use crate::look::Look;
 use crate::stack::Stack;
 use crate::stop::Stop;
+use hz_cursor::Look;
 use hz_tree::Nonterminal::{Coalesce, Left, Operators, PostfixRest, Power, PowerRest, Unary};
 use hz_tree::Symbol::{Read, Take};
 use hz_tree::{Class, Context};
@@ -137,7 +138,7 @@ pub fn unary_row(stack: &mut Stack, context: Context, one: Class) -> Result<(), 
 }
 
 pub fn postfix_rest_row(stack: &mut Stack, look: Look) -> Result<(), Stop>
-    ensures { Pushed (step_of (row.postfix_rest_row look)) result stack.old stack.new }
+    ensures { Pushed (step_of (row.postfix_rest_row (seen look))) result stack.old stack.new }
 {
     if look.one_newline {
         return Ok(());

@@ -3,13 +3,15 @@
 ghost use Rattle.hz_tree.specs.Grammar.{step_of};
 ghost use Rattle.hz_tree.specs.GrammarStatements as row;
 ghost use Rattle.hz_tree.specs.Look.{Look as Seen};
+ghost use Rattle.hz_cursor.specs.Terminal.{seen};
 ghost use Rattle.hz_rows.specs.Pushed.{Pushed};
 
 use crate::classes::{is_colon, is_name};
 use crate::contexts::of_script;
-use crate::look::Look;
+use crate::look::is_async;
 use crate::stack::Stack;
 use crate::stop::{Stop, left_out, stuck};
+use hz_cursor::Look;
 use hz_tree::Nonterminal::{
     Assign, Bind, Binds, Block, Body, Bound, CatchClause, CatchName, Clauses, Else, Expr, Finally,
     ForOpen, Handlers, Head, Initial, Item, Items, Label, LooseSemi, MoreBinds, Params,
@@ -70,7 +72,7 @@ pub fn item_row(stack: &mut Stack, context: Context, one: Class, two: Class) -> 
 }
 
 pub fn bound_row(stack: &mut Stack, look: Look) -> Result<(), Stop>
-    ensures { Pushed (step_of (row.bound_row look)) result stack.old stack.new }
+    ensures { Pushed (step_of (row.bound_row (seen look))) result stack.old stack.new }
 {
     match look.one {
         Class::LeftBracket | Class::LeftBrace => left_out(OutsideKind::Pattern),
@@ -85,7 +87,7 @@ pub fn bound_row(stack: &mut Stack, look: Look) -> Result<(), Stop>
 }
 
 pub fn semi_row(stack: &mut Stack, look: Look) -> Result<(), Stop>
-    ensures { Pushed (step_of (row.semi_row look)) result stack.old stack.new }
+    ensures { Pushed (step_of (row.semi_row (seen look))) result stack.old stack.new }
 {
     match look.one {
         Class::Semicolon => stack.push(&[Take(Class::Semicolon)]),
@@ -227,7 +229,7 @@ fn switch_statement(stack: &mut Stack, context: Context) -> Result<(), Stop>
 
 /// A statement that does not begin with a label.
 fn statement_by(stack: &mut Stack, context: Context, look: Look) -> Result<(), Stop>
-    ensures { Pushed (step_of (row.statement_by context look look.one)) result stack.old stack.new }
+    ensures { Pushed (step_of (row.statement_by context (seen look) look.one)) result stack.old stack.new }
 {
     match look.one {
         Class::LeftBrace => stack.push(&[Read(Block(context))]),
@@ -254,9 +256,9 @@ fn statement_by(stack: &mut Stack, context: Context, look: Look) -> Result<(), S
 }
 
 pub fn statement_row(stack: &mut Stack, context: Context, look: Look) -> Result<(), Stop>
-    ensures { Pushed (step_of (row.statement_row context look)) result stack.old stack.new }
+    ensures { Pushed (step_of (row.statement_row context (seen look))) result stack.old stack.new }
 {
-    if look.is_async() {
+    if is_async(look) {
         left_out(OutsideKind::Async)
     } else if is_name(look.one) && is_colon(look.two) {
         stack.push(&[
@@ -279,7 +281,7 @@ pub fn else_row(stack: &mut Stack, context: Context, one: Class) -> Result<(), S
 }
 
 pub fn label_row(stack: &mut Stack, look: Look) -> Result<(), Stop>
-    ensures { Pushed (step_of (row.label_row look)) result stack.old stack.new }
+    ensures { Pushed (step_of (row.label_row (seen look))) result stack.old stack.new }
 {
     if !look.one_newline && is_name(look.one) {
         stack.push(&[Take(Class::Name)])
@@ -289,7 +291,7 @@ pub fn label_row(stack: &mut Stack, look: Look) -> Result<(), Stop>
 }
 
 pub fn return_value_row(stack: &mut Stack, context: Context, look: Look) -> Result<(), Stop>
-    ensures { Pushed (step_of (row.return_value_row context look)) result stack.old stack.new }
+    ensures { Pushed (step_of (row.return_value_row context (seen look))) result stack.old stack.new }
 {
     if look.one_newline {
         return Ok(());
@@ -301,7 +303,7 @@ pub fn return_value_row(stack: &mut Stack, context: Context, look: Look) -> Resu
 }
 
 pub fn throw_value_row(stack: &mut Stack, context: Context, look: Look) -> Result<(), Stop>
-    ensures { Pushed (step_of (row.throw_value_row context look)) result stack.old stack.new }
+    ensures { Pushed (step_of (row.throw_value_row context (seen look))) result stack.old stack.new }
 {
     if look.one_newline {
         stuck(look)
@@ -343,7 +345,7 @@ pub fn clauses_row(
 }
 
 pub fn handlers_row(stack: &mut Stack, context: Context, look: Look) -> Result<(), Stop>
-    ensures { Pushed (step_of (row.handlers_row context look)) result stack.old stack.new }
+    ensures { Pushed (step_of (row.handlers_row context (seen look))) result stack.old stack.new }
 {
     match look.one {
         Class::Catch => stack.push(&[Read(CatchClause(context)), Read(Finally(context))]),

@@ -1,17 +1,18 @@
 ghost use Rattle.hz_tree.specs.Grammar.{step};
+ghost use Rattle.hz_cursor.specs.Terminal.{seen};
 ghost use Rattle.hz_rows.specs.Pushed.{Pushed};
 
-use crate::look::Look;
 use crate::stack::Stack;
 use crate::stop::Stop;
 use crate::{expressions, functions, heads, operators, primaries, properties, statements};
+use hz_cursor::Look;
 use hz_tree::Nonterminal;
 
 /// Expands a nonterminal that was taken from the stack, where the next tokens look so: puts the right-hand side of its
 /// row onto the stack, or refuses with the row's cause and leaves the stack as it is. `Memory` comes only where there is
 /// a right-hand side, and what then lies on the stack is unspecified.
 pub fn expand(stack: &mut Stack, nonterminal: Nonterminal, look: Look) -> Result<(), Stop>
-    ensures { Pushed (step nonterminal look) result stack.old stack.new }
+    ensures { Pushed (step nonterminal (seen look)) result stack.old stack.new }
 {
     match nonterminal {
         Nonterminal::Script => statements::script_row(stack),
