@@ -1,4 +1,4 @@
-//! Expressions from the comma down to the operators.
+//! Expressions from the comma down to the operators (ECMA-262, 13.14 to 13.16 and 15.3 to 15.5).
 
 ghost use Rattle.hz_tree.specs.Grammar.{step_of};
 ghost use Rattle.hz_tree.specs.GrammarExpressions as row;
@@ -80,7 +80,8 @@ pub fn arrow_body_row(stack: &mut Stack, context: Context, one: Class) -> Result
 }
 
 pub fn yield_value_row(stack: &mut Stack, context: Context, look: Look) -> Result<(), Stop>
-    ensures { Pushed (step_of (row.yield_value_row context (seen look))) result stack.old stack.new }
+    ensures { Pushed (step_of (row.yield_value_row context (seen look)))
+        result stack.old stack.new }
 {
     if look.one_newline {
         return Ok(());
@@ -116,7 +117,8 @@ fn operation_row(stack: &mut Stack, context: Context) -> Result<(), Stop>
 
 /// An expression that is no arrow.
 fn assign_by(stack: &mut Stack, context: Context, one: Class) -> Result<(), Stop>
-    ensures { Pushed (step_of (row.assign_by context context.yields one)) result stack.old stack.new }
+    ensures { Pushed (step_of (row.assign_by context context.yields one))
+        result stack.old stack.new }
 {
     match one {
         Class::Yield => {

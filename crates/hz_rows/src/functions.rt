@@ -1,4 +1,4 @@
-//! Names, parameters and bodies of functions.
+//! Names, parameters and bodies of functions (ECMA-262, 15).
 
 ghost use Rattle.hz_tree.specs.Grammar.{step_of};
 ghost use Rattle.hz_tree.specs.GrammarFunctions as row;

@@ -1,4 +1,4 @@
-//! The head of a `for`.
+//! The head of a `for` (ECMA-262, 14.7.4 and 14.7.5).
 
 ghost use Rattle.hz_tree.specs.Grammar.{step_of};
 ghost use Rattle.hz_tree.specs.GrammarFor as row;

@@ -1,4 +1,4 @@
-//! Operators.
+//! Operators (ECMA-262, 13.4 to 13.13).
 
 ghost use Rattle.std.specs.Prelude.{◌≤◌};
 ghost use Rattle.hz_tree.specs.declared.operator.BinaryOperator.{BinaryOperator};
@@ -23,7 +23,9 @@ fn binary_row(
     one: Class,
 ) -> Result<(), Stop>
     requires { own ≤ 10 }
-    ensures { (operator : BinaryOperator) → Pushed (step_of (row.binary_row context level own one operator)) result stack.old stack.new }
+    ensures { (operator : BinaryOperator) →
+        Pushed (step_of (row.binary_row context level own one operator))
+        result stack.old stack.new }
 {
     if level <= own {
         stack.push(&[

@@ -1,4 +1,4 @@
-//! Left-hand sides, calls, primary expressions and templates.
+//! Left-hand sides, calls, primary expressions and templates (ECMA-262, 13.2 and 13.3).
 
 ghost use Rattle.hz_tree.specs.Grammar.{step_of};
 ghost use Rattle.hz_tree.specs.GrammarPrimaries as row;
@@ -162,7 +162,8 @@ pub fn argument_row(stack: &mut Stack, context: Context, one: Class) -> Result<(
 
 /// A function expression, where `function` stands.
 fn function_expression_row(stack: &mut Stack, context: Context, two: Class) -> Result<(), Stop>
-    ensures { Pushed (step_of (row.function_expression_row context two)) result stack.old stack.new }
+    ensures { Pushed (step_of (row.function_expression_row context two))
+        result stack.old stack.new }
 {
     match two {
         Class::Star => stack.push(&[
@@ -187,7 +188,8 @@ fn function_expression_row(stack: &mut Stack, context: Context, two: Class) -> R
 
 /// A primary expression that is no async function.
 fn primary_by(stack: &mut Stack, context: Context, look: Look) -> Result<(), Stop>
-    ensures { Pushed (step_of (row.primary_by context (seen look) look.one)) result stack.old stack.new }
+    ensures { Pushed (step_of (row.primary_by context (seen look) look.one))
+        result stack.old stack.new }
 {
     match look.one {
         Class::This
@@ -241,7 +243,8 @@ pub fn primary_row(stack: &mut Stack, context: Context, look: Look) -> Result<()
 }
 
 pub fn template_rest_row(stack: &mut Stack, context: Context, look: Look) -> Result<(), Stop>
-    ensures { Pushed (step_of (row.template_rest_row context (seen look))) result stack.old stack.new }
+    ensures { Pushed (step_of (row.template_rest_row context (seen look)))
+        result stack.old stack.new }
 {
     match look.one {
         Class::TemplateMiddle => stack.push(&[

@@ -1,4 +1,4 @@
-//! The properties of object literals.
+//! The properties of object literals (ECMA-262, 13.2.5).
 
 ghost use Rattle.hz_tree.specs.Grammar.{step_of};
 ghost use Rattle.hz_tree.specs.GrammarProperties as row;
@@ -48,7 +48,8 @@ fn plain_prop_row(stack: &mut Stack, context: Context, look: Look) -> Result<(),
 
 /// A getter, or another property whose name is `get`.
 fn getter_row(stack: &mut Stack, context: Context, look: Look) -> Result<(), Stop>
-    ensures { Pushed (step_of (row.getter_row context (seen look) (row.begins_key look.two))) result stack.old stack.new }
+    ensures { Pushed (step_of (row.getter_row context (seen look) (row.begins_key look.two)))
+        result stack.old stack.new }
 {
     if begins_key(look.two) {
         stack.push(&[
@@ -67,7 +68,8 @@ fn getter_row(stack: &mut Stack, context: Context, look: Look) -> Result<(), Sto
 
 /// A setter, or another property whose name is `set`.
 fn setter_row(stack: &mut Stack, context: Context, look: Look) -> Result<(), Stop>
-    ensures { Pushed (step_of (row.setter_row context (seen look) (row.begins_key look.two))) result stack.old stack.new }
+    ensures { Pushed (step_of (row.setter_row context (seen look) (row.begins_key look.two)))
+        result stack.old stack.new }
 {
     if begins_key(look.two) {
         stack.push(&[
@@ -89,7 +91,8 @@ fn setter_row(stack: &mut Stack, context: Context, look: Look) -> Result<(), Sto
 
 /// A property that is no async method.
 fn prop_by(stack: &mut Stack, context: Context, look: Look) -> Result<(), Stop>
-    ensures { Pushed (step_of (row.prop_by context (seen look) look.one)) result stack.old stack.new }
+    ensures { Pushed (step_of (row.prop_by context (seen look) look.one))
+        result stack.old stack.new }
 {
     match look.one {
         Class::Ellipsis => stack.push(&[Take(Class::Ellipsis), Read(Assign(context))]),

@@ -1,4 +1,4 @@
-//! Items and statements.
+//! Items and statements (ECMA-262, 14 and 16).
 
 ghost use Rattle.hz_tree.specs.Grammar.{step_of};
 ghost use Rattle.hz_tree.specs.GrammarStatements as row;
@@ -37,7 +37,8 @@ pub fn items_row(stack: &mut Stack, context: Context, one: Class) -> Result<(), 
 
 /// A declaration of a function, where `function` stands.
 fn declaration_row(stack: &mut Stack, context: Context, two: Class) -> Result<(), Stop>
-    ensures { Pushed (step_of (row.item_row context Class.Function two)) result stack.old stack.new }
+    ensures { Pushed (step_of (row.item_row context Class.Function two))
+        result stack.old stack.new }
 {
     match two {
         Class::Star => stack.push(&[
@@ -153,7 +154,8 @@ pub fn more_binds_row(stack: &mut Stack, context: Context, one: Class) -> Result
 }
 
 fn if_statement(stack: &mut Stack, context: Context) -> Result<(), Stop>
-    ensures { (look : Seen) → Pushed (step_of (row.statement_by context look Class.If)) result stack.old stack.new }
+    ensures { (look : Seen) →
+        Pushed (step_of (row.statement_by context look Class.If)) result stack.old stack.new }
 {
     stack.push(&[
         Take(Class::If),
@@ -166,7 +168,8 @@ fn if_statement(stack: &mut Stack, context: Context) -> Result<(), Stop>
 }
 
 fn do_statement(stack: &mut Stack, context: Context) -> Result<(), Stop>
-    ensures { (look : Seen) → Pushed (step_of (row.statement_by context look Class.Do)) result stack.old stack.new }
+    ensures { (look : Seen) →
+        Pushed (step_of (row.statement_by context look Class.Do)) result stack.old stack.new }
 {
     stack.push(&[
         Take(Class::Do),
@@ -180,7 +183,8 @@ fn do_statement(stack: &mut Stack, context: Context) -> Result<(), Stop>
 }
 
 fn while_statement(stack: &mut Stack, context: Context) -> Result<(), Stop>
-    ensures { (look : Seen) → Pushed (step_of (row.statement_by context look Class.While)) result stack.old stack.new }
+    ensures { (look : Seen) →
+        Pushed (step_of (row.statement_by context look Class.While)) result stack.old stack.new }
 {
     stack.push(&[
         Take(Class::While),
@@ -192,7 +196,8 @@ fn while_statement(stack: &mut Stack, context: Context) -> Result<(), Stop>
 }
 
 fn for_statement(stack: &mut Stack, context: Context) -> Result<(), Stop>
-    ensures { (look : Seen) → Pushed (step_of (row.statement_by context look Class.For)) result stack.old stack.new }
+    ensures { (look : Seen) →
+        Pushed (step_of (row.statement_by context look Class.For)) result stack.old stack.new }
 {
     stack.push(&[
         Take(Class::For),
@@ -214,7 +219,8 @@ fn return_statement(stack: &mut Stack, context: Context) -> Result<(), Stop>
 }
 
 fn switch_statement(stack: &mut Stack, context: Context) -> Result<(), Stop>
-    ensures { (look : Seen) → Pushed (step_of (row.statement_by context look Class.Switch)) result stack.old stack.new }
+    ensures { (look : Seen) →
+        Pushed (step_of (row.statement_by context look Class.Switch)) result stack.old stack.new }
 {
     stack.push(&[
         Take(Class::Switch),
@@ -229,7 +235,8 @@ fn switch_statement(stack: &mut Stack, context: Context) -> Result<(), Stop>
 
 /// A statement that does not begin with a label.
 fn statement_by(stack: &mut Stack, context: Context, look: Look) -> Result<(), Stop>
-    ensures { Pushed (step_of (row.statement_by context (seen look) look.one)) result stack.old stack.new }
+    ensures { Pushed (step_of (row.statement_by context (seen look) look.one))
+        result stack.old stack.new }
 {
     match look.one {
         Class::LeftBrace => stack.push(&[Read(Block(context))]),
@@ -291,7 +298,8 @@ pub fn label_row(stack: &mut Stack, look: Look) -> Result<(), Stop>
 }
 
 pub fn return_value_row(stack: &mut Stack, context: Context, look: Look) -> Result<(), Stop>
-    ensures { Pushed (step_of (row.return_value_row context (seen look))) result stack.old stack.new }
+    ensures { Pushed (step_of (row.return_value_row context (seen look)))
+        result stack.old stack.new }
 {
     if look.one_newline {
         return Ok(());
@@ -303,7 +311,8 @@ pub fn return_value_row(stack: &mut Stack, context: Context, look: Look) -> Resu
 }
 
 pub fn throw_value_row(stack: &mut Stack, context: Context, look: Look) -> Result<(), Stop>
-    ensures { Pushed (step_of (row.throw_value_row context (seen look))) result stack.old stack.new }
+    ensures { Pushed (step_of (row.throw_value_row context (seen look)))
+        result stack.old stack.new }
 {
     if look.one_newline {
         stuck(look)
@@ -318,7 +327,8 @@ pub fn clauses_row(
     has_default: bool,
     one: Class,
 ) -> Result<(), Stop>
-    ensures { Pushed (step_of (row.clauses_row context has_default one)) result stack.old stack.new }
+    ensures { Pushed (step_of (row.clauses_row context has_default one))
+        result stack.old stack.new }
 {
     match one {
         Class::Case => stack.push(&[
