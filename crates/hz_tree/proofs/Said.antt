@@ -1,5 +1,5 @@
 -- The events of a reading are those of its tree: row by row, what a row makes says what its parts say.
-use Rattle.std.proofs.Common.{◌≡◌, ℕ, zero, suc, Bool, true, false, List, [], ◌∷◌, ◌++◌, map, Option, Some, None, refl, ap, sym, ◌∙◌, append_assoc, append-nil}
+use Rattle.std.proofs.Common.{◌≡◌, ℕ, zero, suc, Bool, true, false, cond, if◌then◌else◌, List, [], ◌∷◌, ◌++◌, map, Option, Some, None, refl, ap, sym, ◌∙◌, append_assoc, append-nil}
 use Rattle.hz_tree.specs.declared.class.Class.{Class}
 use Rattle.hz_tree.specs.declared.nonterminal.Nonterminal.{Nonterminal}
 use Rattle.hz_tree.specs.declared.nonterminal.Nonterminal.TheVariants as n
@@ -136,6 +136,10 @@ said_parts (s.Close ∷ more) parts = (parts.0, said_parts more parts.1)
 abbrev pub SaidRow : (m : Nonterminal) → Row m → Type 0
 SaidRow m (goes right make) = (p : Parts Value right) → said_value m (make p) ≡ told right (said_parts right p)
 SaidRow m (refuses cause) = Unit {0}
+
+pub says_if : (m : Nonterminal) (t : Bool) (a b : Row m) → SaidRow m a → SaidRow m b → SaidRow m (if t then a else b)
+says_if m true a b h i = h
+says_if m false a b h i = i
 
 -- ---- readings
 
