@@ -1,3 +1,6 @@
+ghost use Rattle.std.specs.Prelude.{◌≡◌, ◌++◌, [], OnOk, reverse};
+ghost use Rattle.hz_cursor.specs.Marks.{dropped, innermost_is, is_round_bracket};
+
 use crate::class::bracketing;
 use crate::mark::Mark;
 use hz_tree::{Bracket, Bracketing, Class};
@@ -65,7 +68,6 @@ impl Tally {
     {
         if self.closed {
             self.marks.push(Mark::Closes(arrow))?;
-            self.closed = false;
         }
         Ok(())
     }
@@ -100,9 +102,6 @@ impl Tally {
         Ok(())
     }
 }
-
-ghost use Rattle.std.specs.Prelude.{◌≡◌, ◌++◌, [], OnOk, reverse};
-ghost use Rattle.hz_cursor.specs.Marks.{dropped, innermost_is, is_round_bracket};
 
 fn is_round(bracket: Bracket) -> bool
     ensures { result ≡ is_round_bracket bracket }
