@@ -7,7 +7,6 @@ ghost use Rattle.hz_rows.specs.Pushed.{Pushed};
 
 use crate::classes::is_paren;
 use crate::contexts::{of_arrow, with_in};
-use crate::look::begins_arrow;
 use crate::stack::Stack;
 use crate::stop::{Stop, stuck};
 use hz_cursor::Look;
@@ -135,7 +134,7 @@ fn assign_by(stack: &mut Stack, context: Context, one: Class) -> Result<(), Stop
 pub fn assign_row(stack: &mut Stack, context: Context, look: Look) -> Result<(), Stop>
     ensures { Pushed (step_of (row.assign_row context (seen look))) result stack.old stack.new }
 {
-    if begins_arrow(look) {
+    if look.begins_arrow() {
         arrow_row(stack, context, is_paren(look.one))
     } else {
         assign_by(stack, context, look.one)

@@ -8,7 +8,6 @@ ghost use Rattle.std.specs.Prelude.{◌≡◌};
 
 use crate::classes::{begins_unary, is_async_word, is_of, is_yield};
 use crate::contexts::without_in;
-use crate::look::begins_arrow;
 use crate::stack::Stack;
 use crate::stop::{Stop, left_out};
 use hz_cursor::Look;
@@ -74,7 +73,7 @@ pub fn left_head_row(stack: &mut Stack, context: Context, one: Class) -> Result<
 fn is_no_left(context: Context, look: Look) -> bool
     ensures { result ≡ row.is_no_left context (seen look) }
 {
-    begins_unary(look.one) || begins_arrow(look) || (is_yield(look.one) && context.yields)
+    begins_unary(look.one) || look.begins_arrow() || (is_yield(look.one) && context.yields)
 }
 
 /// A head that begins with an expression.

@@ -10,7 +10,6 @@ mod contexts;
 mod expressions;
 mod functions;
 mod heads;
-mod look;
 mod operators;
 mod primaries;
 mod properties;

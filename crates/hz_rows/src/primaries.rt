@@ -5,12 +5,10 @@ ghost use Rattle.hz_tree.specs.GrammarPrimaries as row;
 ghost use Rattle.hz_cursor.specs.Terminal.{seen};
 ghost use Rattle.hz_rows.specs.Pushed.{Pushed};
 
-use crate::classes::{is_name, is_word};
 use crate::contexts::with_in;
-use crate::look::is_async;
 use crate::stack::Stack;
 use crate::stop::{Stop, left_out, stuck};
-use hz_cursor::Look;
+use hz_cursor::{Look, is_name, is_word};
 use hz_tree::Nonterminal::{
     Args, Argument, Arguments, Assign, Body, Callee, Elements, Expr, Members, MoreArguments,
     MoreElements, New, NewArgs, OptionalTail, OwnName, Params, Primary, Props, Tails, TemplateRest,
@@ -235,7 +233,7 @@ fn primary_by(stack: &mut Stack, context: Context, look: Look) -> Result<(), Sto
 pub fn primary_row(stack: &mut Stack, context: Context, look: Look) -> Result<(), Stop>
     ensures { Pushed (step_of (row.primary_row context (seen look))) result stack.old stack.new }
 {
-    if is_async(look) {
+    if look.is_async() {
         left_out(OutsideKind::Async)
     } else {
         primary_by(stack, context, look)

@@ -5,11 +5,10 @@ ghost use Rattle.hz_tree.specs.GrammarProperties as row;
 ghost use Rattle.hz_cursor.specs.Terminal.{seen};
 ghost use Rattle.hz_rows.specs.Pushed.{Pushed};
 
-use crate::classes::{begins_key, is_colon, is_name, is_paren};
-use crate::look::is_async;
+use crate::classes::{begins_key, is_colon, is_paren};
 use crate::stack::Stack;
 use crate::stop::{Stop, left_out, stuck};
-use hz_cursor::Look;
+use hz_cursor::{Look, is_name};
 use hz_tree::Nonterminal::{
     Assign, Body, Bound, Key, KeyRest, MoreProps, ParameterEnd, Params, Prop, Props, ShorthandEnd,
     Word,
@@ -113,7 +112,7 @@ fn prop_by(stack: &mut Stack, context: Context, look: Look) -> Result<(), Stop>
 pub fn prop_row(stack: &mut Stack, context: Context, look: Look) -> Result<(), Stop>
     ensures { Pushed (step_of (row.prop_row context (seen look))) result stack.old stack.new }
 {
-    if is_async(look) {
+    if look.is_async() {
         left_out(OutsideKind::Async)
     } else {
         prop_by(stack, context, look)

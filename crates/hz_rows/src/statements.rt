@@ -6,12 +6,11 @@ ghost use Rattle.hz_tree.specs.Look.{Look as Seen};
 ghost use Rattle.hz_cursor.specs.Terminal.{seen};
 ghost use Rattle.hz_rows.specs.Pushed.{Pushed};
 
-use crate::classes::{is_colon, is_name};
+use crate::classes::is_colon;
 use crate::contexts::of_script;
-use crate::look::is_async;
 use crate::stack::Stack;
 use crate::stop::{Stop, left_out, stuck};
-use hz_cursor::Look;
+use hz_cursor::{Look, is_name};
 use hz_tree::Nonterminal::{
     Assign, Bind, Binds, Block, Body, Bound, CatchClause, CatchName, Clauses, Else, Expr, Finally,
     ForOpen, Handlers, Head, Initial, Item, Items, Label, LooseSemi, MoreBinds, Params,
@@ -265,7 +264,7 @@ fn statement_by(stack: &mut Stack, context: Context, look: Look) -> Result<(), S
 pub fn statement_row(stack: &mut Stack, context: Context, look: Look) -> Result<(), Stop>
     ensures { Pushed (step_of (row.statement_row context (seen look))) result stack.old stack.new }
 {
-    if is_async(look) {
+    if look.is_async() {
         left_out(OutsideKind::Async)
     } else if is_name(look.one) && is_colon(look.two) {
         stack.push(&[

@@ -2,7 +2,6 @@ ghost use Rattle.std.specs.Prelude.{◌≡◌, Err};
 ghost use Rattle.hz_tree.specs.Look as spec;
 ghost use Rattle.hz_cursor.specs.Terminal.{seen};
 
-use crate::look::cause;
 use hz_cursor::Look;
 use hz_tree::{BadKind, OutsideKind};
 use std::alloc::AllocFailed;
@@ -39,5 +38,5 @@ pub fn left_out(kind: OutsideKind) -> Result<(), Stop>
 pub fn stuck(look: Look) -> Result<(), Stop>
     ensures { result ≡ Err (Stop.Refused (spec.stuck (seen look))) }
 {
-    Err(Stop::Refused(cause(look)))
+    Err(Stop::Refused(look.cause()))
 }
