@@ -1,5 +1,5 @@
 -- The answers of all marks are those of the definition.
-use Rattle.std.proofs.Common.{◌≡◌, Bool, true, false, if◌then◌else◌, cond, ◌&&◌, drop, Some, None, rules, List, [], ◌∷◌, ◌++◌, refl, ap, sym, ◌∙◌, subst}
+use Rattle.std.proofs.Common.{◌≡◌, Bool, true, false, if◌then◌else◌, ◌&&◌, Some, None, rules, List, [], ◌∷◌, ◌++◌, refl, ap, sym, ◌∙◌}
 use Rattle.std.proofs.lemmas.List.{append-nil}
 use denote.Enum.Bare.{same_true}
 use Rattle.hz_tree.specs.contracts.class.Bracket.{the_type as bracket_type}

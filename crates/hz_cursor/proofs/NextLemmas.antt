@@ -1,9 +1,9 @@
 -- The list of tokens behind the next one.
-use Rattle.std.proofs.Common.{◌≡◌, ℕ, ◌+◌, ◌<◌, ◌≤◌, Bool, true, false, None, List, [], ◌∷◌, length, refl, ◌∙◌}
+use Rattle.std.proofs.Common.{◌≡◌, ◌+◌, ◌<◌, ◌≤◌, Bool, true, false, None, List, [], ◌∷◌, length, refl, ◌∙◌}
 use Rattle.hz_tree.specs.Text.{Text}
 use Rattle.hz_tree.specs.Tokens.{Lexeme, token_behind, is_last, braces, in_hole, tokens_from}
 use Rattle.hz_tree.proofs.TokenLemmas.{tokens_law, token_behind_moves}
-use Rattle.hz_scan.specs.State.{State, token_from, past, behind}
+use Rattle.hz_scan.specs.State.{State, token_from, behind}
 use Rattle.hz_scan.proofs.ListLemmas.{given, moved}
 
 pub record Next (opened : List Bool) (source : Text) (s new : State) (t : Lexeme) : Type 0 where

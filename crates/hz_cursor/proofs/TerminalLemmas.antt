@@ -1,11 +1,10 @@
 -- One turn of the cursor.
-use Rattle.std.proofs.Common.{◌≡◌, ℕ, ◌+◌, ◌≤◌, Bool, true, false, ◌&&◌, if◌then◌else◌, None, List, [], ◌∷◌, drop, reverse, length, map, refl, ap, sym, ◌∙◌}
+use Rattle.std.proofs.Common.{◌≡◌, ℕ, ◌+◌, Bool, true, false, ◌&&◌, if◌then◌else◌, List, [], ◌∷◌, drop, reverse, length, map, refl, ◌∙◌}
 use Rattle.hz_tree.specs.declared.class.Class.{Class}
 use Rattle.hz_tree.specs.declared.class.Class.TheVariants as k
 use Rattle.hz_tree.specs.declared.class.Bracket.TheVariants.{Round}
 use Rattle.hz_tree.specs.Classes.{class_of}
-use Rattle.hz_tree.specs.Look.{Terminal, is_paren, arrow_behind, begins_parameters, terminals_from}
-use Rattle.hz_tree.specs.Refusals.{max_length}
+use Rattle.hz_tree.specs.Look.{is_paren, arrow_behind, begins_parameters, terminals_from}
 use Rattle.hz_tree.specs.Tokens.{Lexeme, is_last, braces, in_hole, tokens_from}
 use Rattle.hz_scan.specs.State.{State, token_from, behind}
 use Rattle.hz_cursor.specs.Arrows.{arrows}

@@ -1,5 +1,5 @@
 -- The marks of tokens, one token after the other.
-use Rattle.std.specs.Prelude.{Bool, true, false, List, ◌++◌}
+use Rattle.std.specs.Prelude.{Bool, List, ◌++◌}
 use Rattle.hz_tree.specs.declared.class.Class.{Class}
 use Rattle.hz_tree.specs.declared.class.Bracket.{Bracket}
 use Rattle.hz_tree.specs.declared.class.Bracketing.{Bracketing}

@@ -1,5 +1,5 @@
 -- The terminals that are left.
-use Rattle.std.specs.Prelude.{◌≡◌, ℕ, ◌≤◌, Bool, false, if◌then◌else◌, Option, None, List, [], map, length, reverse}
+use Rattle.std.specs.Prelude.{◌≡◌, ℕ, ◌≤◌, Bool, false, if◌then◌else◌, None, List, [], map, length, reverse}
 use Rattle.hz_tree.specs.Classes.{class_of}
 use Rattle.hz_tree.specs.Look.{Terminal, terminals_from}
 use Rattle.hz_tree.specs.Refusals.{max_length}

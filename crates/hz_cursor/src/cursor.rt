@@ -8,8 +8,8 @@ use std::marker::Model;
 
 /// The terminals of a source that are left, of which the next two can be seen.
 ///
-/// It borrows the source and takes memory for the brackets that are open and for the parentheses. After Memory
-/// it is not to be used any more.
+/// It borrows the source, and takes memory for its parentheses and for the braces that are open. Each token is
+/// scanned twice in all.
 #[derive(Drop)]
 pub struct Cursor<'a> {
     one: Option<Terminal<'a>>,
@@ -31,7 +31,7 @@ impl<'a> Model for Cursor<'a> {
 }
 
 impl<'a> Cursor<'a> {
-    ghost use Rattle.std.specs.Prelude.{◌≡◌, ◌≤◌, IfOk, length};
+    ghost use Rattle.std.specs.Prelude.{◌≡◌, ◌≤◌, IfOk, OnErr, length, take};
     ghost use Rattle.hz_tree.specs.Look.{look, terminals};
     ghost use Rattle.hz_tree.specs.Reading.{place_ahead, end_behind};
     ghost use Rattle.hz_tree.specs.Refusals.{max_length};
@@ -81,9 +81,11 @@ impl<'a> Cursor<'a> {
         }
     }
 
-    /// Takes the next terminal, the last one too. None where none is left.
+    /// Takes the next terminal, the last one too. None where none is left. After Memory nothing but the next two
+    /// is left.
     pub fn take(&mut self) -> Result<Option<Terminal<'a>>, Memory>
-        ensures { IfOk result (Takes self.old self.new) }
+        ensures ok { IfOk result (Takes self.old self.new) }
+        ensures err { OnErr result (self.new ≡ take 2 self.old) }
     {
         let taken = self.one;
         if taken.is_some() {
@@ -97,9 +99,10 @@ impl<'a> Cursor<'a> {
     }
 
     /// Takes the next terminal where the grammar takes it for a token of the class, and else takes nothing and
-    /// gives None.
+    /// gives None. After Memory nothing but the next two is left.
     pub fn eat(&mut self, wanted: Class) -> Result<Option<Terminal<'a>>, Memory>
-        ensures { IfOk result (TakesClass wanted self.old self.new) }
+        ensures ok { IfOk result (TakesClass wanted self.old self.new) }
+        ensures err { OnErr result (self.new ≡ take 2 self.old) }
     {
         match &self.one {
             Some(one) if fits(wanted, one.class) => self.take(),

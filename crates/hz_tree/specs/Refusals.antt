@@ -78,3 +78,8 @@ functions_by source _ = []
 -- the functions of a source that is not refused
 unfoldable pub functions : Text → List FunctionInfo
 functions source = functions_by source (reads n.Script (terminals source))
+
+-- a source that is not refused, read as strict code where `strict` is true
+pub record Accepted : Type 0 where
+  pub source : Text
+  pub strict : Bool

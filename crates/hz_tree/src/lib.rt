@@ -19,7 +19,7 @@ mod tree;
 
 pub use class::{Bracket, Bracketing, Class};
 pub use front::{Front, Part};
-pub use index::{FunctionInfo, FunctionInfos};
+pub use index::{FunctionInfo, FunctionInfos, Index};
 pub use nonterminal::{Context, Nonterminal};
 pub use operator::{
     AssignOperator, BinaryOperator, DeclarationWord, Iteration, UnaryOperator, UpdateOperator,

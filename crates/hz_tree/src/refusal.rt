@@ -19,6 +19,9 @@ pub enum Refusal {
 
     /// It does not say that it is strict code.
     Sloppy,
+
+    /// It goes past what is built so far. This is the place, in bytes, up to which it does not.
+    NotYet(usize),
 }
 
 impl fmt::Display for Refusal {
@@ -34,6 +37,7 @@ impl fmt::Display for Refusal {
             Refusal::Syntax(at) => write!(f, "Syntax at {}", at),
             Refusal::Outside(kind, at) => write!(f, "Outside({}) at {}", kind, at),
             Refusal::Sloppy => write!(f, "Sloppy"),
+            Refusal::NotYet(at) => write!(f, "NotYet at {}", at),
         }
     }
 }

@@ -1,4 +1,3 @@
-use Rattle.std.proofs.Common.{◌≡◌, rules}
 use Rattle.hz_cursor.proofs.ArrowLemmas.{answers_all}
 use Rattle.hz_cursor.proofs.arrows.arrow_flags.Goals as goal
 
