@@ -1,11 +1,7 @@
 -- What the verdict on a whole source says of its refusal and of its functions.
-use Rattle.std.proofs.Common.{◌≡◌, ℕ, Bool, true, false, ◌||◌, cond, if◌then◌else◌, List, [], ◌∷◌, Option, Some, None, refl, ap, sym, ◌∙◌}
-use Rattle.hz_tree.specs.declared.index.FunctionInfo.{FunctionInfo}
+use Rattle.std.proofs.Common.{◌≡◌, Bool, List, [], ◌∷◌, Some, refl, ap, sym, ◌∙◌}
 use Rattle.hz_tree.specs.declared.outside.BadKind.{BadKind}
-use Rattle.hz_tree.specs.declared.outside.BadKind.TheVariants as bad
 use Rattle.hz_tree.specs.declared.nonterminal.Nonterminal.TheVariants as n
-use Rattle.hz_tree.specs.declared.refusal.Refusal.{Refusal}
-use Rattle.hz_tree.specs.declared.refusal.Refusal.TheVariants as refusal
 use Rattle.hz_tree.specs.declared.symbol.Symbol.TheVariants as s
 use Rattle.hz_tree.specs.declared.tree.Tree.{Tree}
 use Rattle.hz_tree.specs.Text.{Text}
@@ -14,8 +10,7 @@ use Rattle.hz_tree.specs.Reading.{Reading, Got, Stuck, Deeper, place_ahead, read
 use Rattle.hz_tree.specs.Stack.{Verdict, Through, At, Lost, ends}
 use Rattle.hz_tree.specs.Events.{events_of}
 use Rattle.hz_tree.specs.Drafts.{built, begun}
-use Rattle.hz_tree.specs.Functions.{functions_of}
-use Rattle.hz_tree.specs.Refusals.{is_strict, refusal_at, refusal_by, functions_by}
+use Rattle.hz_tree.specs.Refusals.{refusal_at, refusal_by, functions_by}
 use Rattle.hz_tree.proofs.Said.{say}
 use Rattle.hz_tree.proofs.SaidRows.{tells_said}
 use Rattle.hz_tree.proofs.Stack.{verdict_one, ends_whole}

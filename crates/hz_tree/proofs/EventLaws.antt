@@ -1,5 +1,5 @@
 -- The events of a tree of each kind are those of the trees in it.
-use Rattle.std.proofs.Common.{◌≡◌, ℕ, Bool, List, [], ◌∷◌, ◌++◌, map, Option, Some, None, rules}
+use Rattle.std.proofs.Common.{◌≡◌, ℕ, Bool, List, [], ◌++◌, map, Option, Some, None, rules}
 use Rattle.hz_tree.specs.declared.operator.AssignOperator.{AssignOperator}
 use Rattle.hz_tree.specs.declared.operator.BinaryOperator.{BinaryOperator}
 use Rattle.hz_tree.specs.declared.operator.DeclarationWord.{DeclarationWord}
@@ -12,8 +12,7 @@ use Rattle.hz_tree.specs.declared.tree.FunctionKind.{FunctionKind}
 use Rattle.hz_tree.specs.declared.tree.Tree.{Tree, the_lemmas}
 use Rattle.hz_tree.specs.declared.tree.Tree.TheVariants as t
 use Rattle.hz_tree.specs.Text.{Text}
-use Rattle.hz_tree.specs.Reading.{Event, Opened, Closed}
-use Rattle.hz_tree.specs.Events.{said_all, said_option, said_parameters, said_function, events_of}
+use Rattle.hz_tree.specs.Events.{said_all, said_option, said_function, events_of}
 
 abbrev pub map_option : {A B : Type 0} → (A → B) → Option A → Option B
 map_option f None = None

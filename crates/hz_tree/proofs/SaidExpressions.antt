@@ -1,19 +1,12 @@
 -- Rows of expressions and of the head of a `for` say what their parts say.
-use Rattle.std.proofs.Common.{◌≡◌, ℕ, suc, Bool, true, false, not, ◌&&◌, ◌||◌, if◌then◌else◌, nat_le, List, ◌∷◌, [], ◌++◌, Option, Some, None, rules}
+use Rattle.std.proofs.Common.{Bool, true, false, ◌&&◌, rules}
 use Rattle.hz_tree.specs.declared.class.Class.{Class}
 use Rattle.hz_tree.specs.declared.class.Class.TheVariants as k
 use Rattle.hz_tree.specs.declared.nonterminal.Context.{Context}
-use Rattle.hz_tree.specs.declared.nonterminal.Nonterminal.{Nonterminal}
 use Rattle.hz_tree.specs.declared.nonterminal.Nonterminal.TheVariants as n
 use Rattle.hz_tree.specs.declared.operator.AssignOperator.{AssignOperator}
 use Rattle.hz_tree.specs.declared.operator.AssignOperator.TheVariants as by
-use Rattle.hz_tree.specs.declared.operator.BinaryOperator.{BinaryOperator}
-use Rattle.hz_tree.specs.declared.operator.BinaryOperator.TheVariants as bin
-use Rattle.hz_tree.specs.declared.operator.UnaryOperator.{UnaryOperator}
-use Rattle.hz_tree.specs.declared.operator.UnaryOperator.TheVariants as unary
-use Rattle.hz_tree.specs.Classes.{is_name, is_word}
-use Rattle.hz_tree.specs.Look.{Look, is_async, is_async_word, is_arrow, is_paren, begins_arrow}
-use Rattle.hz_tree.specs.Symbols.{Row}
+use Rattle.hz_tree.specs.Look.{Look, is_async_word, is_paren, begins_arrow}
 use Rattle.hz_tree.specs.GrammarExpressions.{expr_row, expr_rest_row, arrow_row, arrow_sign_by, arrow_sign_row, arrow_body_row, yield_value_by, yield_value_row, operation_row, assign_by, assign_row, assigns, assign_rest_row, cond_rest_row}
 use Rattle.hz_tree.specs.GrammarFor.{for_open_row, declared_head_row, left_head_row, is_of, is_no_left, expr_head_row, head_by, head_row, optional_expr_row}
 use Rattle.hz_tree.proofs.Said.{SaidRow, says_if}

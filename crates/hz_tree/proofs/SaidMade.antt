@@ -18,7 +18,6 @@ use Rattle.hz_tree.specs.GrammarExpressions.{listed}
 use Rattle.hz_tree.specs.GrammarFor.{declared_head, finished, left_head}
 use Rattle.hz_tree.specs.GrammarPrimaries.{tailed}
 use Rattle.hz_tree.specs.GrammarProperties.{property}
-use Rattle.hz_tree.specs.Reading.{Event}
 use Rattle.hz_tree.specs.Events.{said_function, events_of}
 use Rattle.hz_tree.proofs.EventLaws.{said_laws, said_Binary, said_Postfix, said_Cond, said_Assign, said_Comma, said_Left, said_Function, said_DeclaredHead, said_BindsHead, said_Bind, said_LeftHead, said_ExprHead, said_Property, said_Method}
 use Rattle.hz_tree.proofs.Said.{said_trees, said_tree_option, said_operators, said_assign, said_arms, said_after_key, said_after_name, said_rests, said_after_left}

@@ -1,19 +1,14 @@
 -- Rows of operators say what their parts say.
-use Rattle.std.proofs.Common.{◌≡◌, ℕ, suc, Bool, true, false, not, ◌&&◌, ◌||◌, if◌then◌else◌, nat_le, List, ◌∷◌, [], ◌++◌, Option, Some, None, rules}
+use Rattle.std.proofs.Common.{ℕ, Bool, true, false, nat_le, rules}
 use Rattle.hz_tree.specs.declared.class.Class.{Class}
 use Rattle.hz_tree.specs.declared.class.Class.TheVariants as k
 use Rattle.hz_tree.specs.declared.nonterminal.Context.{Context}
-use Rattle.hz_tree.specs.declared.nonterminal.Nonterminal.{Nonterminal}
 use Rattle.hz_tree.specs.declared.nonterminal.Nonterminal.TheVariants as n
-use Rattle.hz_tree.specs.declared.operator.AssignOperator.{AssignOperator}
-use Rattle.hz_tree.specs.declared.operator.AssignOperator.TheVariants as asg
 use Rattle.hz_tree.specs.declared.operator.BinaryOperator.{BinaryOperator}
 use Rattle.hz_tree.specs.declared.operator.BinaryOperator.TheVariants as by
 use Rattle.hz_tree.specs.declared.operator.UnaryOperator.{UnaryOperator}
 use Rattle.hz_tree.specs.declared.operator.UnaryOperator.TheVariants as unary
-use Rattle.hz_tree.specs.Classes.{is_name, is_word}
-use Rattle.hz_tree.specs.Look.{Look, is_async, is_async_word, is_arrow, is_paren, begins_arrow}
-use Rattle.hz_tree.specs.Symbols.{Row}
+use Rattle.hz_tree.specs.Look.{Look}
 use Rattle.hz_tree.specs.GrammarOperators.{binary_row, in_row, operators_row, logical_row, coalesce_row, power_row, power_rest_row, prefix_row, unary_row, postfix_rest_by, postfix_rest_row}
 use Rattle.hz_tree.proofs.Said.{SaidRow, says_if}
 use Rattle.hz_tree.proofs.SaidMade.{row_laws}

@@ -1,19 +1,11 @@
 -- Rows of primary expressions and properties say what their parts say.
-use Rattle.std.proofs.Common.{◌≡◌, ℕ, suc, Bool, true, false, not, ◌&&◌, ◌||◌, if◌then◌else◌, nat_le, List, ◌∷◌, [], ◌++◌, Option, Some, None, rules}
+use Rattle.std.proofs.Common.{Bool, true, false, not, ◌&&◌, rules}
 use Rattle.hz_tree.specs.declared.class.Class.{Class}
 use Rattle.hz_tree.specs.declared.class.Class.TheVariants as k
 use Rattle.hz_tree.specs.declared.nonterminal.Context.{Context}
-use Rattle.hz_tree.specs.declared.nonterminal.Nonterminal.{Nonterminal}
 use Rattle.hz_tree.specs.declared.nonterminal.Nonterminal.TheVariants as n
-use Rattle.hz_tree.specs.declared.operator.AssignOperator.{AssignOperator}
-use Rattle.hz_tree.specs.declared.operator.AssignOperator.TheVariants as asg
-use Rattle.hz_tree.specs.declared.operator.BinaryOperator.{BinaryOperator}
-use Rattle.hz_tree.specs.declared.operator.BinaryOperator.TheVariants as by
-use Rattle.hz_tree.specs.declared.operator.UnaryOperator.{UnaryOperator}
-use Rattle.hz_tree.specs.declared.operator.UnaryOperator.TheVariants as unary
 use Rattle.hz_tree.specs.Classes.{is_name, is_word}
-use Rattle.hz_tree.specs.Look.{Look, is_async, is_async_word, is_arrow, is_paren, begins_arrow}
-use Rattle.hz_tree.specs.Symbols.{Row}
+use Rattle.hz_tree.specs.Look.{Look, is_async, is_paren}
 use Rattle.hz_tree.specs.GrammarStatements.{is_colon}
 use Rattle.hz_tree.specs.GrammarPrimaries.{left_row, tails_row, optional_tail_row, word_row, new_row, callee_row, members_row, new_args_row, args_row, arguments_row, more_arguments_row, argument_row, function_expression_row, primary_by, primary_row, template_rest_by, template_rest_row, elements_row, more_elements_row}
 use Rattle.hz_tree.specs.GrammarProperties.{props_row, more_props_row, begins_key, plain_prop_row, getter_row, setter_row, prop_by, prop_row, shorthand_end_row, key_rest_by, key_rest_row, key_by, key_row}

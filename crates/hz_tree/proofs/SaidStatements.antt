@@ -1,19 +1,11 @@
 -- Rows of statements and functions say what their parts say.
-use Rattle.std.proofs.Common.{◌≡◌, ℕ, suc, Bool, true, false, not, ◌&&◌, ◌||◌, if◌then◌else◌, nat_le, List, ◌∷◌, [], ◌++◌, Option, Some, None, rules}
+use Rattle.std.proofs.Common.{Bool, true, false, ◌&&◌, rules}
 use Rattle.hz_tree.specs.declared.class.Class.{Class}
 use Rattle.hz_tree.specs.declared.class.Class.TheVariants as k
 use Rattle.hz_tree.specs.declared.nonterminal.Context.{Context}
-use Rattle.hz_tree.specs.declared.nonterminal.Nonterminal.{Nonterminal}
 use Rattle.hz_tree.specs.declared.nonterminal.Nonterminal.TheVariants as n
-use Rattle.hz_tree.specs.declared.operator.AssignOperator.{AssignOperator}
-use Rattle.hz_tree.specs.declared.operator.AssignOperator.TheVariants as asg
-use Rattle.hz_tree.specs.declared.operator.BinaryOperator.{BinaryOperator}
-use Rattle.hz_tree.specs.declared.operator.BinaryOperator.TheVariants as by
-use Rattle.hz_tree.specs.declared.operator.UnaryOperator.{UnaryOperator}
-use Rattle.hz_tree.specs.declared.operator.UnaryOperator.TheVariants as unary
-use Rattle.hz_tree.specs.Classes.{is_name, is_word}
-use Rattle.hz_tree.specs.Look.{Look, is_async, is_async_word, is_arrow, is_paren, begins_arrow}
-use Rattle.hz_tree.specs.Symbols.{Row}
+use Rattle.hz_tree.specs.Classes.{is_name}
+use Rattle.hz_tree.specs.Look.{Look, is_async}
 use Rattle.hz_tree.specs.GrammarFunctions.{own_name_row, params_row, parameters_row, more_parameters_row, parameter_end_row, body_row}
 use Rattle.hz_tree.specs.GrammarStatements.{script_row, items_row, item_row, binds_row, bind_row, initial_row, more_binds_row, bound_by, bound_row, semi_by, semi_row, loose_semi_row, block_row, return_row, statement_by, is_colon, statement_row, else_row, label_by, label_row, return_value_by, return_value_row, throw_value_by, throw_value_row, clauses_row, handlers_by, handlers_row, catch_clause_row, catch_name_row, finally_row}
 use Rattle.hz_tree.proofs.Said.{SaidRow, says_if}

@@ -1,17 +1,16 @@
 -- The draft that the events of a tree build has the functions of the tree.
-use Rattle.std.proofs.Common.{◌≡◌, ℕ, zero, suc, ◌+◌, min, List, [], ◌∷◌, ◌++◌, length, map, Option, Some, None, refl, subst, ap, sym, ◌∙◌, append_assoc, append-nil, length-append, arith}
+use Rattle.std.proofs.Common.{◌≡◌, ℕ, ◌+◌, min, List, [], ◌∷◌, ◌++◌, length, map, Some, None, refl, subst, ap, sym, ◌∙◌, append_assoc, append-nil, length-append, arith}
 use Rattle.hz_tree.specs.declared.index.FunctionInfo.{FunctionInfo}
-use Rattle.hz_tree.specs.declared.nonterminal.Nonterminal.{Nonterminal}
 use Rattle.hz_tree.specs.declared.tree.Bound.{Bound}
 use Rattle.hz_tree.specs.declared.tree.FunctionKind.{FunctionKind}
 use Rattle.hz_tree.specs.declared.tree.Tree.{Tree, roll-Tree}
 use Rattle.hz_tree.specs.declared.tree.Tree.TheOpen.{Tree-F}
-use Rattle.hz_tree.specs.declared.tree.Tree.TheFolds.{fold-Tree, fold-roll-Tree, ind-Tree, map-Tree}
+use Rattle.hz_tree.specs.declared.tree.Tree.TheFolds.{fold-roll-Tree, ind-Tree, map-Tree}
 use Rattle.hz_tree.specs.Text.{Text}
-use Rattle.hz_tree.specs.Reading.{Event, Opened, Counted, Closed}
-use Rattle.hz_tree.specs.Events.{Said, said_all, said_option, said_parameters, said_function, said_layer, events_of}
-use Rattle.hz_tree.specs.Functions.{Found, none, both, in_all, in_option, in_function, in_layer, found_in, functions_of}
-use Rattle.hz_tree.specs.Drafts.{Draft, innermost, change, change_innermost, counted, ended, happens, built, begun}
+use Rattle.hz_tree.specs.Reading.{Event, Closed}
+use Rattle.hz_tree.specs.Events.{Said, said_all, said_parameters, said_function, said_layer, events_of}
+use Rattle.hz_tree.specs.Functions.{Found, none, both, in_all, in_function, in_layer, found_in, functions_of}
+use Rattle.hz_tree.specs.Drafts.{Draft, change, counted, ended, happens, built, begun}
 
 built_append : (d : Draft) (es fs : List Event) → built d (es ++ fs) ≡ built (built d es) fs
 built_append d [] fs = refl
@@ -32,8 +31,8 @@ both_build es es' f g h i fs k outer =
     ∙ ap (λ d. built d es') (h.builds fs k outer)
     ∙ i.builds (fs ++ f k (length fs)) k outer
     ∙ ap (λ x. record { functions = x; opened = k ∷ outer })
-        (append_assoc fs (f k (length fs)) (g k (length (fs ++ f k (length fs))))
-        ∙ ap (λ n. fs ++ (f k (length fs) ++ g k n)) (length-append fs (f k (length fs))))
+    (append_assoc fs (f k (length fs)) (g k (length (fs ++ f k (length fs))))
+    ∙ ap (λ n. fs ++ (f k (length fs) ++ g k n)) (length-append fs (f k (length fs))))
 
 tied_both : {es es' : Said} {f g : Found} → Tied es f → Tied es' g → Tied (es ++ es') (both f g)
 tied_both {es} {es'} {f} {g} h i = record { builds = both_build es es' f g h i }
@@ -45,7 +44,7 @@ change_at (y ∷ fs) f x more = ap (λ xs. y ∷ xs) (change_at fs f x more)
 
 count_all : (ps : List Bound) (fs : List FunctionInfo) (x : FunctionInfo) (outer : List ℕ) (m : ℕ) → x.length ≡ min m 255
     → built (record { functions = fs ++ x ∷ []; opened = length fs ∷ outer }) (said_parameters ps)
-        ≡ record { functions = fs ++ record x { length = min (m + length ps) 255 } ∷ []; opened = length fs ∷ outer }
+    ≡ record { functions = fs ++ record x { length = min (m + length ps) 255 } ∷ []; opened = length fs ∷ outer }
 count_all [] fs x outer m h =
     ap (λ n. record { functions = fs ++ record x { length = n } ∷ []; opened = length fs ∷ outer }) (omega (arith, h))
 count_all (p ∷ ps) fs x outer m h =
@@ -55,20 +54,20 @@ count_all (p ∷ ps) fs x outer m h =
 
 function_builds : (start end : ℕ) (kind : FunctionKind) (ps : List Bound) (body : Said) (found : Found) → Tied body found
     → (fs : List FunctionInfo) (k : ℕ) (outer : List ℕ) → built (record { functions = fs; opened = k ∷ outer }) (said_function start end kind ps body)
-        ≡ record { functions = fs ++ in_function start end kind (length ps) found k (length fs); opened = k ∷ outer }
+    ≡ record { functions = fs ++ in_function start end kind (length ps) found k (length fs); opened = k ∷ outer }
 function_builds start end kind ps body found h fs k outer =
     let new : FunctionInfo = record { start = start; end = start; kind = kind; length = 0; parent = Some k } in
     let full : FunctionInfo = record { start = start; end = start; kind = kind; length = min (length ps) 255; parent = Some k } in
     let open_draft : Draft = record { functions = fs ++ new ∷ []; opened = length fs ∷ k ∷ outer } in
     built_append open_draft (said_parameters ps) (body ++ Closed end ∷ [])
     ∙ ap (λ d. built d (body ++ Closed end ∷ [])) (count_all ps fs new (k ∷ outer) 0 refl
-        ∙ ap (λ n. record { functions = fs ++ record new { length = n } ∷ []; opened = length fs ∷ k ∷ outer }) (omega arith))
+    ∙ ap (λ n. record { functions = fs ++ record new { length = n } ∷ []; opened = length fs ∷ k ∷ outer }) (omega arith))
     ∙ built_append (record { functions = fs ++ full ∷ []; opened = length fs ∷ k ∷ outer }) body (Closed end ∷ [])
     ∙ ap (λ d. built d (Closed end ∷ [])) (h.builds (fs ++ full ∷ []) (length fs) (k ∷ outer))
     ∙ ap (λ xs. record { functions = xs; opened = k ∷ outer })
-        (ap (change (length fs) (ended end)) (append_assoc fs (full ∷ []) (found (length fs) (length (fs ++ full ∷ []))))
-        ∙ change_at fs (ended end) full (found (length fs) (length (fs ++ full ∷ [])))
-        ∙ ap (λ n. fs ++ ended end full ∷ found (length fs) n) (length-append fs (full ∷ []) ∙ omega arith))
+    (ap (change (length fs) (ended end)) (append_assoc fs (full ∷ []) (found (length fs) (length (fs ++ full ∷ []))))
+    ∙ change_at fs (ended end) full (found (length fs) (length (fs ++ full ∷ [])))
+    ∙ ap (λ n. fs ++ ended end full ∷ found (length fs) n) (length-append fs (full ∷ []) ∙ omega arith))
 
 tied_function : (start end : ℕ) (kind : FunctionKind) (ps : List Bound) {body : Said} {found : Found} → Tied body found
     → Tied (said_function start end kind ps body) (in_function start end kind (length ps) found)
@@ -176,10 +175,12 @@ tied_layer (Tree-F.ComputedKey at key) = key.1
 
 tied_roll : (x : Tree-F Tree) → Tied (said_layer (map-Tree Tree Said events_of x)) (in_layer (map-Tree Tree Found found_in x)) → TiedTree (roll-Tree x)
 unfolding events_of found_in
-tied_roll x h = record { builds = λ fs k outer.
-    ap (built (record { functions = fs; opened = k ∷ outer })) (fold-roll-Tree Said said_layer x)
-    ∙ h.builds fs k outer
-    ∙ ap (λ found. record { functions = fs ++ found k (length fs); opened = k ∷ outer }) (sym (fold-roll-Tree Found in_layer x)) }
+tied_roll x h = record {
+  builds = λ fs k outer.
+      ap (built (record { functions = fs; opened = k ∷ outer })) (fold-roll-Tree Said said_layer x)
+      ∙ h.builds fs k outer
+      ∙ ap (λ found. record { functions = fs ++ found k (length fs); opened = k ∷ outer }) (sym (fold-roll-Tree Found in_layer x));
+}
 
 tied : (tree : Tree) → TiedTree tree
 tied = ind-Tree TiedTree (λ x y is. subst (λ z. TiedTree (roll-Tree z)) is (tied_roll (map-Tree Proved Tree (λ e. e.0) y) (tied_layer y)))

@@ -7,7 +7,7 @@ use Rattle.hz_tree.specs.Reading.{Event, Opened, Counted, Closed}
 
 pub record Draft : Type 0 where
   pub functions : List FunctionInfo
-  pub opened : List ℕ -- the numbers of the functions that have not ended, the innermost first
+  pub opened : List ℕ  -- the numbers of the functions that have not ended, the innermost first
 
 abbrev pub innermost : List ℕ → Option ℕ
 innermost [] = None
@@ -45,5 +45,5 @@ abbrev pub begun : Text → Draft
 begun source =
     record {
       functions = record { start = 0; end = length source; kind = kind.Script; length = 0; parent = None } ∷ [];
-      opened = 0 ∷ []
+      opened = 0 ∷ [];
     }

@@ -1,5 +1,5 @@
 -- Refusals as they are printed.
-use Rattle.std.specs.Prelude.{ℕ, List, ◌++◌, codes, decimal}
+use Rattle.std.specs.Prelude.{◌++◌, codes, decimal}
 use Rattle.hz_tree.specs.declared.outside.OutsideKind.{OutsideKind}
 use Rattle.hz_tree.specs.declared.outside.OutsideKind.TheVariants as outside
 use Rattle.hz_tree.specs.declared.refusal.Refusal.{Refusal}

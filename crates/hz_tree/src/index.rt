@@ -1,7 +1,6 @@
+use crate::tree::FunctionKind;
 use std::alloc::{AllocError, Global};
 use std::marker::Model;
-
-use crate::tree::FunctionKind;
 
 /// What is known of a function before it is compiled.
 #[derive(Clone, Copy, Debug, PartialEq, Eq)]

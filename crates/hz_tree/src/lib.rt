@@ -14,6 +14,8 @@ mod operator;
 mod outside;
 mod refusal;
 mod symbol;
+#[cfg(test)]
+mod tests;
 mod token;
 mod tree;
 

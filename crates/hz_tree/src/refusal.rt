@@ -1,6 +1,5 @@
-use std::fmt;
-
 use crate::outside::OutsideKind;
+use std::fmt;
 
 /// Why a source is refused.
 #[derive(Clone, Copy, Debug, PartialEq, Eq)]
