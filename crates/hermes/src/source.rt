@@ -31,7 +31,13 @@ pub fn run_source<K: Sink>(alloc: Global, strict: bool, source: &[u8], out: &mut
 }
 
 // Runs the file that a source was compiled to.
-fn run_compiled<K: Sink>(alloc: Global, _strict: bool, _source: &[u8], bytes: &[u8], out: &mut K) -> Status
+fn run_compiled<K: Sink>(
+    alloc: Global,
+    _strict: bool,
+    _source: &[u8],
+    bytes: &[u8],
+    out: &mut K,
+) -> Status
     requires { Compiles _strict _source.now bytes.now }
     ensures outcome { Outcome result _strict _source.now (K.got out.old) (K.got out.new) }
     ensures read { result ≡ Status.ReadFault → ⊥ }

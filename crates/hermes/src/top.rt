@@ -61,7 +61,12 @@ pub fn hermes<F: Files, S: Source, K: Sink, E: Sink, L: Ledger>(
 }
 
 // All but the line on standard error.
-fn run_words<F: Files, K: Sink>(alloc: Global, words: &[String], files: &mut F, out: &mut K) -> Status
+fn run_words<F: Files, K: Sink>(
+    alloc: Global,
+    words: &[String],
+    files: &mut F,
+    out: &mut K,
+) -> Status
     ensures usage { (word : ℕ) → usage_fault (map string_bytes words.now) ≡ Some word
         → (result ≡ Status.Usage word) × (files.new ≡ files.old) × (out.new ≡ out.old) }
     ensures outcome { usage_fault (map string_bytes words.now) ≡ None
