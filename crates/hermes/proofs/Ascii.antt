@@ -1,5 +1,5 @@
 -- The bytes of a first text are ASCII.
-use Rattle.std.proofs.Common.{◌≡◌, ℕ, zero, suc, nat_lt, ◌<◌, Bool, true, false, ◌&&◌, List, [], ◌∷◌, ◌++◌, flat_map, codes, decimal, refl, sym, subst, arith, All}
+use Rattle.std.proofs.Common.{◌≡◌, ℕ, zero, suc, nat_lt, ◌<◌, Bool, true, false, ◌&&◌, List, [], ◌∷◌, ◌++◌, flat_map, codes, decimal, ◌⊎◌, inl, inr, refl, sym, subst, arith, All}
 use Rattle.std.specs.Str.{IsAscii}
 use Rattle.std.specs.List.{list_all}
 use Rattle.std.proofs.lemmas.Str.{IsAscii-append}
@@ -11,7 +11,7 @@ use Rattle.hermes.specs.declared.first.language.Term.{Term}
 use Rattle.hermes.specs.declared.first.language.Addend.{Addend}
 use Rattle.hermes.specs.declared.first.language.Argument.{Argument}
 use Rattle.hermes.specs.declared.first.language.Argument.TheVariants as argument
-use Rattle.hermes.specs.FirstTexts.{directive, sign_byte, factor_tokens, term_tokens, addend_tokens, argument_tokens, call_tokens, first_tokens, is_blank, Spaced, is_number, is_text_byte, is_term, is_addend, is_argument, IsFirst}
+use Rattle.hermes.specs.FirstTexts.{directive, sign_byte, factor_tokens, term_tokens, addend_tokens, argument_tokens, call_tokens, first_tokens, is_blank, Spaced, is_number, is_text_byte, is_term, is_addend, is_argument, Spells, IsFirst}
 
 abbrev pub AreAscii : List (List ℕ) → Type 0
 AreAscii [] = Unit {0}
@@ -107,9 +107,13 @@ spaced_ascii (t ∷ ts) bytes a (blanks, rest, e, b, s) =
 directive_ascii : IsAscii directive
 directive_ascii = tested_ascii directive refl
 
-pub first_ascii : (calls : List Argument) (bytes : List ℕ) → IsFirst calls bytes → IsAscii bytes
-first_ascii calls bytes f = spaced_ascii (first_tokens calls) bytes (directive_ascii, calls_ascii calls f.parts) f.spelled
+spelled_ascii : (strict : Bool) (calls : List Argument) (bytes : List ℕ) → AreAscii (flat_map call_tokens calls) → Spells strict calls bytes → IsAscii bytes
+spelled_ascii strict calls bytes a (inl s) = spaced_ascii (first_tokens calls) bytes (directive_ascii, a) s
+spelled_ascii strict calls bytes a (inr s) = spaced_ascii (flat_map call_tokens calls) bytes a s.1
+
+pub first_ascii : (strict : Bool) (calls : List Argument) (bytes : List ℕ) → IsFirst strict calls bytes → IsAscii bytes
+first_ascii strict calls bytes f = spelled_ascii strict calls bytes (calls_ascii calls f.parts) f.spelled
 
 -- as the writer of files asks it
-pub first_below : (calls : List Argument) (bytes : List ℕ) → IsFirst calls bytes → All (λ byte. byte < 128) bytes
-first_below calls bytes f = λ k d below. rw (get_or_default bytes k d 0 below) (first_ascii calls bytes f k)
+pub first_below : (strict : Bool) (calls : List Argument) (bytes : List ℕ) → IsFirst strict calls bytes → All (λ byte. byte < 128) bytes
+first_below strict calls bytes f = λ k d below. rw (get_or_default bytes k d 0 below) (first_ascii strict calls bytes f k)

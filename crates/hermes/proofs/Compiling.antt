@@ -1,5 +1,5 @@
 -- A file that was written of the reader's calls and the generator's code.
-use Rattle.std.proofs.Common.{◌≡◌, ℕ, List, None, false, sym, ap, subst}
+use Rattle.std.proofs.Common.{◌≡◌, ℕ, Bool, List, None, sym, ap, subst}
 use Rattle.hz_file.specs.Image.{program, script_module}
 use Rattle.hz_file.specs.Layout.{HasMagic}
 use Rattle.hz_file.specs.Module as file
@@ -13,11 +13,11 @@ use Rattle.hermes.specs.FirstTexts.{IsAccepted}
 use Rattle.hermes.specs.Saying.{lines_of, end_of}
 use Rattle.hermes.specs.Scripts.{script}
 
-pub compiled : (source bytes instructions : List ℕ) (texts : List (List ℕ)) (registers : ℕ) (calls : List Argument) → IsAccepted source calls → HasMagic bytes → rule bytes ≡ None
-    → file.module_of bytes ≡ script_module (program false source texts registers instructions)
+pub compiled : (strict : Bool) (source bytes instructions : List ℕ) (texts : List (List ℕ)) (registers : ℕ) (calls : List Argument) → IsAccepted strict source calls → HasMagic bytes → rule bytes ≡ None
+    → file.module_of bytes ≡ script_module (program strict source texts registers instructions)
     → Ends (script instructions texts registers) (start_of (script instructions texts registers)) (lines_of calls) (end_of calls)
-    → IsBuilt (script instructions texts registers) (start_of (script instructions texts registers)) → IsCompiled source calls bytes
-compiled source bytes instructions texts registers calls accepted magic opens holds says built =
+    → IsBuilt (script instructions texts registers) (start_of (script instructions texts registers)) → IsCompiled strict source calls bytes
+compiled strict source bytes instructions texts registers calls accepted magic opens holds says built =
     let same : script instructions texts registers ≡ code_in bytes = ap code_module (sym holds) in
     record {
       accepted = accepted;

@@ -1,5 +1,5 @@
 -- The run of a compiled file ends as its source says.
-use Rattle.std.proofs.Common.{◌≡◌, ◌∙◌, ℕ, List, [], ◌∷◌, Option, Some, None, refl, sym, ap}
+use Rattle.std.proofs.Common.{◌≡◌, ◌∙◌, ℕ, Bool, List, [], ◌∷◌, Option, Some, None, refl, sym, ap}
 use Rattle.std.specs.Option.{option_map_or}
 use Rattle.hz_value.specs.declared.leaving.Left.{Left}
 use Rattle.hz_value.specs.declared.leaving.Left.TheVariants.{NotSafe}
@@ -29,19 +29,19 @@ abbrev pub AgreesWith : (file : List ℕ) (old new : Option (List ℕ)) → Firs
 AgreesWith file old new answer = (lines : List (List ℕ)) (end : End) → Ends (code_in file) (start_of (code_in file)) lines end → Agrees lines end old new answer
 
 -- by the answer of the run
-pub run_done : (source file : List ℕ) (old new : Option (List ℕ)) → Compiles source file → AgreesWith file old new first_end.Done → Outcome status.Done source old new
-run_done source file old new (calls, c) agrees =
+pub run_done : (strict : Bool) (source file : List ℕ) (old new : Option (List ℕ)) → Compiles strict source file → AgreesWith file old new first_end.Done → Outcome status.Done strict source old new
+run_done strict source file old new (calls, c) agrees =
     let a = agrees (lines_of calls) (end_of calls) c.says in (calls, c.accepted, a.0, a.1)
 
-pub run_left : (source file : List ℕ) (old new : Option (List ℕ)) (reason : Left) → Compiles source file → AgreesWith file old new (first_end.Left reason) → Outcome (status.Left reason) source old new
-run_left source file old new reason (calls, c) agrees =
+pub run_left : (strict : Bool) (source file : List ℕ) (old new : Option (List ℕ)) (reason : Left) → Compiles strict source file → AgreesWith file old new (first_end.Left reason) → Outcome (status.Left reason) strict source old new
+run_left strict source file old new reason (calls, c) agrees =
     let a = agrees (lines_of calls) (end_of calls) c.says in (calls, c.accepted, a.0, a.1)
 
-pub run_bad : (source file : List ℕ) (old new : Option (List ℕ)) → Compiles source file → AgreesWith file old new first_end.BadCode → ⊥
-run_bad source file old new (calls, c) agrees = not_bad calls (agrees (lines_of calls) (end_of calls) c.says).0
+pub run_bad : (strict : Bool) (source file : List ℕ) (old new : Option (List ℕ)) → Compiles strict source file → AgreesWith file old new first_end.BadCode → ⊥
+run_bad strict source file old new (calls, c) agrees = not_bad calls (agrees (lines_of calls) (end_of calls) c.says).0
 
-pub run_fault : (source file : List ℕ) (old new : Option (List ℕ)) → Compiles source file → AgreesWith file old new first_end.WriteFault → PrintedFront source old new
-run_fault source file old new (calls, c) agrees = (calls, c.accepted, agrees (lines_of calls) (end_of calls) c.says)
+pub run_fault : (strict : Bool) (source file : List ℕ) (old new : Option (List ℕ)) → Compiles strict source file → AgreesWith file old new first_end.WriteFault → PrintedFront strict source old new
+run_fault strict source file old new (calls, c) agrees = (calls, c.accepted, agrees (lines_of calls) (end_of calls) c.says)
 
-pub run_memory : (source file : List ℕ) (old new : Option (List ℕ)) → Compiles source file → AgreesWith file old new first_end.Memory → PrintedFront source old new
-run_memory source file old new (calls, c) agrees = (calls, c.accepted, agrees (lines_of calls) (end_of calls) c.says)
+pub run_memory : (strict : Bool) (source file : List ℕ) (old new : Option (List ℕ)) → Compiles strict source file → AgreesWith file old new first_end.Memory → PrintedFront strict source old new
+run_memory strict source file old new (calls, c) agrees = (calls, c.accepted, agrees (lines_of calls) (end_of calls) c.says)

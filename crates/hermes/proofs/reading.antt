@@ -3,6 +3,7 @@ pub mod Bools
 pub mod Digits
 mod Examples
 pub mod Numerals
+pub mod Opening
 pub mod Reached
 pub mod Spacing
 pub mod Steps

@@ -1,5 +1,5 @@
 -- What the compiled file of a source is.
-use Rattle.std.specs.Prelude.{◌≡◌, ℕ, List, false, None}
+use Rattle.std.specs.Prelude.{◌≡◌, ℕ, Bool, List, None}
 use Rattle.hz_file.specs.Layout.{HasMagic}
 use Rattle.hz_file.specs.Module.{module_of}
 use Rattle.hz_file.specs.Opening.{rule}
@@ -16,20 +16,20 @@ use Rattle.hermes.specs.Saying.{lines_of, end_of}
 abbrev pub code_in : List ℕ → code.Module
 code_in file = code_module (module_of file)
 
--- The file can be opened, holds the source, and its code prints what the source says and ends as it ends.
-pub record IsCompiled (source : List ℕ) (calls : List Argument) (file : List ℕ) : Type 0 where
-  pub accepted : IsAccepted source calls
+-- The file can be opened, holds the source and the flag, and its code prints what the source says and ends as it ends.
+pub record IsCompiled (strict : Bool) (source : List ℕ) (calls : List Argument) (file : List ℕ) : Type 0 where
+  pub accepted : IsAccepted strict source calls
   pub magic : HasMagic file
   pub opens : rule file ≡ None
   pub source_kept : (module_of file).source ≡ source
-  pub flag : (module_of file).strict ≡ false
+  pub flag : (module_of file).strict ≡ strict
   pub says : Ends (code_in file) (start_of (code_in file)) (lines_of calls) (end_of calls)
   pub built : IsBuilt (code_in file) (start_of (code_in file))
 
-abbrev pub Compiles : List ℕ → List ℕ → Type 0
-Compiles source file = (calls : List Argument) × IsCompiled source calls file
+abbrev pub Compiles : Bool → List ℕ → List ℕ → Type 0
+Compiles strict source file = (calls : List Argument) × IsCompiled strict source calls file
 
 -- a source is refused as `IsRefused` says
-abbrev pub FaultOf : List ℕ → FirstFault → Type 0
-FaultOf source (fault.NotYet at) = IsRefused source at
-FaultOf source fault.Memory = Unit {0}
+abbrev pub FaultOf : Bool → List ℕ → FirstFault → Type 0
+FaultOf strict source (fault.NotYet at) = IsRefused strict source at
+FaultOf strict source fault.Memory = Unit {0}

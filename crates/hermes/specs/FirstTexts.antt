@@ -1,5 +1,5 @@
 -- First texts: which bytes spell which calls, and where bytes stop beginning such a text.
-use Rattle.std.specs.Prelude.{◌≡◌, ℕ, ◌+◌, ◌*◌, ◌<◌, ◌≤◌, Bool, not, ◌&&◌, ◌||◌, ◌==◌, nat_le, nat_lt, IsTrue, MatchBool, List, [], ◌∷◌, ◌++◌, length, take, decimal, codes, flat_map}
+use Rattle.std.specs.Prelude.{◌≡◌, ◌⊎◌, ℕ, ◌+◌, ◌*◌, ◌<◌, ◌≤◌, Bool, not, ◌&&◌, ◌||◌, ◌==◌, nat_le, nat_lt, IsTrue, MatchBool, List, [], ◌∷◌, ◌++◌, length, take, decimal, codes, flat_map}
 use Rattle.std.specs.List.{list_all}
 use Rattle.hermes.specs.declared.first.language.Sign.{Sign}
 use Rattle.hermes.specs.declared.first.language.Sign.TheVariants.{Plus, Minus}
@@ -75,21 +75,25 @@ abbrev pub is_argument : Argument → Bool
 is_argument (argument.Text text) = is_text text
 is_argument (argument.Sum s) = is_sum s
 
+-- The bytes spell these calls behind a directive, or without one where the text is read as strict.
+abbrev pub Spells : Bool → List Argument → List ℕ → Type 0
+Spells strict calls bytes = Spaced (first_tokens calls) bytes ⊎ (IsTrue strict × Spaced (flat_map call_tokens calls) bytes)
+
 -- The bytes are a first text with these calls.
-pub record IsFirst (calls : List Argument) (bytes : List ℕ) : Type 0 where
+pub record IsFirst (strict : Bool) (calls : List Argument) (bytes : List ℕ) : Type 0 where
   pub parts : IsTrue (list_all is_argument calls)
-  pub spelled : Spaced (first_tokens calls) bytes
+  pub spelled : Spells strict calls bytes
 
 -- Some first text begins with these bytes.
-abbrev pub Begins : List ℕ → Type 0
-Begins prefix = (calls : List Argument) × (rest : List ℕ) × IsFirst calls (prefix ++ rest)
+abbrev pub Begins : Bool → List ℕ → Type 0
+Begins strict prefix = (calls : List Argument) × (rest : List ℕ) × IsFirst strict calls (prefix ++ rest)
 
 -- The bytes are no first text, and `at` is the length of their longest prefix that begins one.
-pub record IsStuck (bytes : List ℕ) (at : ℕ) : Type 0 where
-  pub none : (calls : List Argument) → IsFirst calls bytes → ⊥
+pub record IsStuck (strict : Bool) (bytes : List ℕ) (at : ℕ) : Type 0 where
+  pub none : (calls : List Argument) → IsFirst strict calls bytes → ⊥
   pub within : at ≤ length bytes
-  pub begins : Begins (take at bytes)
-  pub longest : (n : ℕ) → at < n → n ≤ length bytes → Begins (take n bytes) → ⊥
+  pub begins : Begins strict (take at bytes)
+  pub longest : (n : ℕ) → at < n → n ≤ length bytes → Begins strict (take n bytes) → ⊥
 
 -- How many bytes a text has at least, without its directive: nine for each call, two for each further number, and those of its texts.
 abbrev pub addend_numbers : List Addend → ℕ
@@ -108,9 +112,9 @@ weight [] = 0
 weight (a ∷ calls) = weight_of a + weight calls
 
 -- The text of a file runs with these calls: it has at most 4,095 bytes.
-abbrev pub IsAccepted : List ℕ → List Argument → Type 0
-IsAccepted file calls = (length file ≤ 4095) × IsFirst calls file
+abbrev pub IsAccepted : Bool → List ℕ → List Argument → Type 0
+IsAccepted strict file calls = (length file ≤ 4095) × IsFirst strict calls file
 
 -- The text of a file is refused at that place: behind 4,095 bytes where it has more, else where it is stuck.
-abbrev pub IsRefused : List ℕ → ℕ → Type 0
-IsRefused file at = MatchBool (nat_lt 4095 (length file)) (at ≡ 4095) (IsStuck file at)
+abbrev pub IsRefused : Bool → List ℕ → ℕ → Type 0
+IsRefused strict file at = MatchBool (nat_lt 4095 (length file)) (at ≡ 4095) (IsStuck strict file at)

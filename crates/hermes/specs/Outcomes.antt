@@ -1,5 +1,5 @@
 -- What the status of a call says of the source and of what went out.
-use Rattle.std.specs.Prelude.{◌≡◌, ◌⊎◌, ℕ, List, Option, Some, None}
+use Rattle.std.specs.Prelude.{◌≡◌, ◌⊎◌, ℕ, Bool, List, Option, Some, None}
 use Rattle.std.specs.Io.KnownBytes.{Appends, Keeps}
 use Rattle.hz_ops.specs.Runs.{End, Done, LeftFor}
 use Rattle.hz_io.specs.Contents.{Contents}
@@ -11,38 +11,38 @@ use Rattle.hermes.specs.FirstTexts.{IsAccepted, IsRefused}
 use Rattle.hermes.specs.Saying.{lines_of, end_of}
 use Rattle.hermes.specs.Printing.{printed, AppendsPrefix}
 
--- The source runs, ends so, and all of its lines went out.
-abbrev pub Printed : End → List ℕ → Option (List ℕ) → Option (List ℕ) → Type 0
-Printed end source old new =
-    (calls : List Argument) × IsAccepted source calls × (end_of calls ≡ end) × Appends old new (printed (lines_of calls))
+-- The source runs, read as strict or not, ends so, and all of its lines went out.
+abbrev pub Printed : End → Bool → List ℕ → Option (List ℕ) → Option (List ℕ) → Type 0
+Printed end strict source old new =
+    (calls : List Argument) × IsAccepted strict source calls × (end_of calls ≡ end) × Appends old new (printed (lines_of calls))
 
 -- The source runs, and a front of its lines' bytes went out.
-abbrev pub PrintedFront : List ℕ → Option (List ℕ) → Option (List ℕ) → Type 0
-PrintedFront source old new =
-    (calls : List Argument) × IsAccepted source calls × AppendsPrefix old new (printed (lines_of calls))
+abbrev pub PrintedFront : Bool → List ℕ → Option (List ℕ) → Option (List ℕ) → Type 0
+PrintedFront strict source old new =
+    (calls : List Argument) × IsAccepted strict source calls × AppendsPrefix old new (printed (lines_of calls))
 
 -- What a status says of the source, and of what went out: `old` is what standard output had got before the call,
 -- and `new` behind it, where it tells this. Which case comes is determined by the source, but for faults and memory.
-abbrev pub Outcome : Status → List ℕ → Option (List ℕ) → Option (List ℕ) → Type 0
-Outcome status.Done source old new = Printed Done source old new
-Outcome (status.Left reason) source old new = Printed (LeftFor reason) source old new
-Outcome (status.Refused (NotYet at)) source old new = IsRefused source at × Keeps old new
-Outcome status.ReadFault source old new = Keeps old new
-Outcome status.WriteFault source old new = PrintedFront source old new
-Outcome status.Memory source old new = PrintedFront source old new ⊎ Keeps old new
-Outcome (status.Usage word) source old new = ⊥
+abbrev pub Outcome : Status → Bool → List ℕ → Option (List ℕ) → Option (List ℕ) → Type 0
+Outcome status.Done strict source old new = Printed Done strict source old new
+Outcome (status.Left reason) strict source old new = Printed (LeftFor reason) strict source old new
+Outcome (status.Refused (NotYet at)) strict source old new = IsRefused strict source at × Keeps old new
+Outcome status.ReadFault strict source old new = Keeps old new
+Outcome status.WriteFault strict source old new = PrintedFront strict source old new
+Outcome status.Memory strict source old new = PrintedFront strict source old new ⊎ Keeps old new
+Outcome (status.Usage word) strict source old new = ⊥
 
 -- no source was read
 abbrev pub IsUnread : Status → Type 0
 IsUnread s = (s ≡ status.ReadFault) ⊎ (s ≡ status.Memory)
 
 -- What a status says where the file holds this source, or is not there.
-abbrev pub OutcomeAt : Option (List ℕ) → Status → Option (List ℕ) → Option (List ℕ) → Type 0
-OutcomeAt (Some source) status old new = Outcome status source old new
-OutcomeAt None status old new = IsUnread status × Keeps old new
+abbrev pub OutcomeAt : Option (List ℕ) → Bool → Status → Option (List ℕ) → Option (List ℕ) → Type 0
+OutcomeAt (Some source) strict status old new = Outcome status strict source old new
+OutcomeAt None strict status old new = IsUnread status × Keeps old new
 
 -- What a status says of a file with this name: of the source that it holds, or of some source where the files do
 -- not tell what they hold.
-abbrev pub OutcomeOf : Option Contents → List ℕ → Status → Option (List ℕ) → Option (List ℕ) → Type 0
-OutcomeOf None name status old new = (source : List ℕ) × Outcome status source old new
-OutcomeOf (Some held) name status old new = OutcomeAt (held name) status old new
+abbrev pub OutcomeOf : Option Contents → List ℕ → Bool → Status → Option (List ℕ) → Option (List ℕ) → Type 0
+OutcomeOf None name strict status old new = (source : List ℕ) × Outcome status strict source old new
+OutcomeOf (Some held) name strict status old new = OutcomeAt (held name) strict status old new

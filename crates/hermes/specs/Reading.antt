@@ -111,6 +111,10 @@ Rest source at (state.Token part after) done bytes calls = RestToken part.now af
 Rest source at (state.Text start) done bytes calls = RestText (slice_range source start at) done bytes calls
 Rest source at (state.Number before value) done bytes calls = RestNumber before value done bytes calls
 
+-- The bytes are a whole text with these calls.
+abbrev pub Whole : Bool → List ℕ → List Argument → Type 0
+Whole strict bytes calls = IsFirst strict calls bytes
+
 -- Over the byte b: what completes the new state completes the old one behind b, and nothing else does.
 pub record Moves (old new : List ℕ → List Argument → Type 0) (b : ℕ) : Type 0 where
   pub on : (r : List ℕ) (calls : List Argument) → old (b ∷ r) calls → new r calls
@@ -133,10 +137,10 @@ Stepped old source at b done (Err (fault.NotYet n)) = (n ≡ at) × Halts old b
 Stepped old source at b done (Err fault.Memory) = Unit {0}
 
 -- The state says what is still to come behind the first `at` bytes.
-pub record IsRead (source : List ℕ) (at : ℕ) (now : State) (done : List Argument) : Type 0 where
+pub record IsRead (strict : Bool) (source : List ℕ) (at : ℕ) (now : State) (done : List Argument) : Type 0 where
   pub valid : IsState at now
-  pub on : (r : List ℕ) (calls : List Argument) → IsFirst calls (take at source ++ r) → Rest source at now done r calls
-  pub back : (r : List ℕ) (calls : List Argument) → Rest source at now done r calls → IsFirst calls (take at source ++ r)
+  pub on : (r : List ℕ) (calls : List Argument) → IsFirst strict calls (take at source ++ r) → Rest source at now done r calls
+  pub back : (r : List ℕ) (calls : List Argument) → Rest source at now done r calls → IsFirst strict calls (take at source ++ r)
 
 -- Behind a call, where the text may end.
 abbrev pub is_between : State → Bool
@@ -144,7 +148,7 @@ is_between (state.Token part next.Call) = length part.now == 0
 is_between other = false
 
 -- What reading a source gives: its calls, and there are no others; or the place where it stops beginning a first text.
-abbrev pub Reads : List ℕ → Result (List Argument) FirstFault → Type 0
-Reads source (Ok found) = IsFirst found source × ((calls : List Argument) → IsFirst calls source → calls ≡ found)
-Reads source (Err (fault.NotYet at)) = IsStuck source at
-Reads source (Err fault.Memory) = Unit {0}
+abbrev pub Reads : Bool → List ℕ → Result (List Argument) FirstFault → Type 0
+Reads strict source (Ok found) = IsFirst strict found source × ((calls : List Argument) → IsFirst strict calls source → calls ≡ found)
+Reads strict source (Err (fault.NotYet at)) = IsStuck strict source at
+Reads strict source (Err fault.Memory) = Unit {0}

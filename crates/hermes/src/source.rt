@@ -17,23 +17,29 @@ use hz_file::File;
 use hz_io::Sink;
 use std::alloc::Global;
 
-/// Compiles the source to the bytes of a file, opens that file, and runs it.
-pub fn run_source<K: Sink>(alloc: Global, source: &[u8], out: &mut K) -> Status
-    ensures outcome { Outcome result source.now (K.got out.old) (K.got out.new) }
+/// Compiles the source to the bytes of a file with this flag, opens that file, and runs it.
+pub fn run_source<K: Sink>(alloc: Global, strict: bool, source: &[u8], out: &mut K) -> Status
+    ensures outcome { Outcome result strict source.now (K.got out.old) (K.got out.new) }
     ensures read { result ≡ Status.ReadFault → ⊥ }
     ensures cause { WriteCause result (K.count out.old) (K.count out.new) }
 {
-    match compile_first(alloc, source) {
-        Ok(file) => run_compiled(alloc, source, file.as_slice(), out),
+    match compile_first(alloc, strict, source) {
+        Ok(file) => run_compiled(alloc, strict, source, file.as_slice(), out),
         Err(FirstFault::NotYet(at)) => Status::Refused(Refusal::NotYet(at)),
         Err(FirstFault::Memory) => Status::Memory,
     }
 }
 
 // Runs the file that a source was compiled to.
-fn run_compiled<K: Sink>(alloc: Global, _source: &[u8], bytes: &[u8], out: &mut K) -> Status
-    requires { Compiles _source.now bytes.now }
-    ensures outcome { Outcome result _source.now (K.got out.old) (K.got out.new) }
+fn run_compiled<K: Sink>(
+    alloc: Global,
+    _strict: bool,
+    _source: &[u8],
+    bytes: &[u8],
+    out: &mut K,
+) -> Status
+    requires { Compiles _strict _source.now bytes.now }
+    ensures outcome { Outcome result _strict _source.now (K.got out.old) (K.got out.new) }
     ensures read { result ≡ Status.ReadFault → ⊥ }
     ensures cause { WriteCause result (K.count out.old) (K.count out.new) }
 {

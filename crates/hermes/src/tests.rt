@@ -26,21 +26,27 @@ fn run(alloc: Global, source: &[u8], failing: Option<u64>) -> Result<Shown, Fail
     if let Some(call) = failing {
         out.fail_at(call)?;
     }
-    let words = vec![in alloc;
-        String::from_str(alloc, "run")?,
-        String::from_str(alloc, "a.js")?,
-    ]?;
-    called(alloc, words.as_slice(), files, out)
+    called(alloc, &["run", "a.js"], files, out)
 }
 
-fn called(alloc: Global, words: &[String], files: MemFiles, out: MemSink) -> Result<Shown, Fail> {
+// The words as owned text.
+fn owned(alloc: Global, words: &[&str]) -> Result<Vec<String>, Fail> {
+    let mut texts = Vec::new(alloc);
+    for word in words {
+        texts.push(String::from_str(alloc, word)?)?;
+    }
+    Ok(texts)
+}
+
+fn called(alloc: Global, words: &[&str], files: MemFiles, out: MemSink) -> Result<Shown, Fail> {
+    let words = owned(alloc, words)?;
     let mut files = files;
     let mut out = out;
     let mut input = MemSource::new(alloc, Vec::new(alloc), 1);
     let mut err = MemSink::new(alloc, 256)?;
     let status = uncounted::<_, _, _, _, Brand>(
         alloc,
-        words,
+        words.as_slice(),
         &mut files,
         &mut input,
         &mut out,
@@ -161,12 +167,8 @@ fn a_fault_of_output_ends_the_run(rt: HostRuntime) -> Result<(), Fail> {
 #[test]
 fn a_file_that_is_not_there_is_a_read_fault(rt: HostRuntime) -> Result<(), Fail> {
     let alloc = rt.alloc();
-    let words = vec![in alloc;
-        String::from_str(alloc, "run")?,
-        String::from_str(alloc, "b.js")?,
-    ]?;
     let out = MemSink::new(alloc, 16)?;
-    let shown = called(alloc, words.as_slice(), MemFiles::new(alloc), out)?;
+    let shown = called(alloc, &["run", "b.js"], MemFiles::new(alloc), out)?;
     assert_shown(&rt, shown, Status::ReadFault, b"", b"read fault\n");
     Ok(())
 }
@@ -177,13 +179,66 @@ fn a_read_that_fails_is_a_read_fault(rt: HostRuntime) -> Result<(), Fail> {
     let mut files = MemFiles::new(alloc);
     files.write("a.js", b"\"use strict\";print(1);")?;
     files.fail_at(1)?;
-    let words = vec![in alloc;
-        String::from_str(alloc, "run")?,
-        String::from_str(alloc, "a.js")?,
-    ]?;
-    let shown = called(alloc, words.as_slice(), files, MemSink::new(alloc, 16)?)?;
+    let out = MemSink::new(alloc, 16)?;
+    let shown = called(alloc, &["run", "a.js"], files, out)?;
     assert_shown(&rt, shown, Status::ReadFault, b"", b"read fault\n");
     Ok(())
+}
+
+// Calls with these words, where the file with this name holds the source.
+fn run_words(alloc: Global, words: &[&str], name: &str, source: &[u8]) -> Result<Shown, Fail> {
+    let mut files = MemFiles::new(alloc);
+    files.write(name, source)?;
+    called(alloc, words, files, MemSink::new(alloc, 64)?)
+}
+
+#[test]
+fn strict_texts_need_no_directive(rt: HostRuntime) -> Result<(), Fail> {
+    let alloc = rt.alloc();
+    let words = ["run", "-strict", "a.js"];
+    let shown = run_words(alloc, &words, "a.js", b"print(1 + 2 * 3);")?;
+    assert_shown(&rt, shown, Status::Done, b"7\n", b"");
+    let shown = run_words(alloc, &words, "a.js", b"\"use strict\"; print(1);")?;
+    assert_shown(&rt, shown, Status::Done, b"1\n", b"");
+    let shown = run_words(alloc, &words, "a.js", b"")?;
+    assert_shown(&rt, shown, Status::Done, b"", b"");
+    let shown = run_words(alloc, &words, "a.js", b" print(1);")?;
+    let status = Status::Refused(Refusal::NotYet(0));
+    assert_shown(&rt, shown, status, b"", b"refused: NotYet at 0\n");
+    let shown = run_words(alloc, &["run", "a.js"], "a.js", b"print(1);")?;
+    assert_shown(&rt, shown, status, b"", b"refused: NotYet at 0\n");
+    Ok(())
+}
+
+#[test]
+fn dashes_stand_before_any_name(rt: HostRuntime) -> Result<(), Fail> {
+    let alloc = rt.alloc();
+    let source = b"\"use strict\";print(1);";
+    let shown = run_words(alloc, &["run", "--", "-x"], "-x", source)?;
+    assert_shown(&rt, shown, Status::Done, b"1\n", b"");
+    let shown = run_words(alloc, &["run", "-strict", "--", "--"], "--", b"print(1);")?;
+    assert_shown(&rt, shown, Status::Done, b"1\n", b"");
+    Ok(())
+}
+
+fn assert_usage(rt: &(impl Abort + AllocGlobal), words: &[&str], word: usize) -> Result<(), Fail> {
+    let shown = run_words(rt.alloc(), words, "a.js", b"")?;
+    assert_eq!(rt; shown.status, Status::Usage(word));
+    Ok(())
+}
+
+#[test]
+fn words_that_are_no_command(rt: HostRuntime) -> Result<(), Fail> {
+    assert_usage(&rt, &["walk", "a.js"], 0)?;
+    assert_usage(&rt, &["run"], 1)?;
+    assert_usage(&rt, &["run", "-x"], 1)?;
+    assert_usage(&rt, &["run", ""], 1)?;
+    assert_usage(&rt, &["run", "-strict"], 2)?;
+    assert_usage(&rt, &["run", "--"], 2)?;
+    assert_usage(&rt, &["run", "--", ""], 2)?;
+    assert_usage(&rt, &["run", "a.js", "b"], 2)?;
+    assert_usage(&rt, &["run", "-strict", "-strict", "a.js"], 2)?;
+    assert_usage(&rt, &["run", "-strict", "--", "a.js", "b"], 4)
 }
 
 #[test]

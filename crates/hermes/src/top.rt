@@ -5,23 +5,24 @@ ghost use Rattle.hz_io.specs.Causes.{Rose};
 ghost use Rattle.hermes.specs.Effects.{WriteCause, GetsLine};
 ghost use Rattle.hermes.specs.Outcomes.{OutcomeOf};
 ghost use Rattle.hermes.specs.Statuses.{line_of};
-ghost use Rattle.hermes.specs.Words.{usage_fault, file_of};
+ghost use Rattle.hermes.specs.Words.{usage_fault, file_of, strict_of};
 
 use crate::source::run_source;
 use crate::status::Status;
 use crate::steps::Steps;
-use crate::words::file_name;
+use crate::words::{Command, command_of};
 use hz_io::{FileFault, Files, Sink, Source};
 use std::alloc::Global;
 use std::sync::ledger::Ledger;
 
-/// The greatest length of a source, in bytes.
-const MOST: u64 = 4095;
+/// The greatest length of a source that is read whole, in bytes.
+const MOST: u64 = 16_777_215;
 
 /// Does what the words command, and sends the line of the status to `err`.
 ///
 /// `words` are the program's arguments without its own name. `run FILE` reads the file as a script, compiles
-/// it to a bytecode file in memory, opens that file and runs it.
+/// it to a bytecode file in memory, opens that file and runs it. With `-strict` before the file's name, the
+/// script is strict code without a directive too.
 pub fn hermes<F: Files, S: Source, K: Sink, E: Sink, L: Ledger>(
     alloc: Global,
     words: &[String],
@@ -37,7 +38,7 @@ pub fn hermes<F: Files, S: Source, K: Sink, E: Sink, L: Ledger>(
 
     // Words that are a command: the status, and what went out.
     ensures outcome { usage_fault (map string_bytes words.now) ≡ None
-        → OutcomeOf (F.held files.old) (file_of (map string_bytes words.now)) result (K.got out.old) (K.got out.new) }
+        → OutcomeOf (F.held files.old) (file_of (map string_bytes words.now)) (strict_of (map string_bytes words.now)) result (K.got out.old) (K.got out.new) }
 
     // A fault of reading is one of this file in this call, and one of writing is one of out in this call.
     ensures read_fault { result ≡ Status.ReadFault
@@ -54,17 +55,22 @@ pub fn hermes<F: Files, S: Source, K: Sink, E: Sink, L: Ledger>(
     ensures input { _input.new ≡ _input.old }
     ensures steps { _steps.new ≡ _steps.old }
 {
-    let status = command(alloc, words, files, out);
+    let status = run_words(alloc, words, files, out);
     tell(status, err);
     status
 }
 
 // All but the line on standard error.
-fn command<F: Files, K: Sink>(alloc: Global, words: &[String], files: &mut F, out: &mut K) -> Status
+fn run_words<F: Files, K: Sink>(
+    alloc: Global,
+    words: &[String],
+    files: &mut F,
+    out: &mut K,
+) -> Status
     ensures usage { (word : ℕ) → usage_fault (map string_bytes words.now) ≡ Some word
         → (result ≡ Status.Usage word) × (files.new ≡ files.old) × (out.new ≡ out.old) }
     ensures outcome { usage_fault (map string_bytes words.now) ≡ None
-        → OutcomeOf (F.held files.old) (file_of (map string_bytes words.now)) result (K.got out.old) (K.got out.new) }
+        → OutcomeOf (F.held files.old) (file_of (map string_bytes words.now)) (strict_of (map string_bytes words.now)) result (K.got out.old) (K.got out.new) }
     ensures read_fault { result ≡ Status.ReadFault
         → Rose (F.read_count files.old (file_of (map string_bytes words.now)))
         (F.read_count files.new (file_of (map string_bytes words.now))) }
@@ -72,23 +78,29 @@ fn command<F: Files, K: Sink>(alloc: Global, words: &[String], files: &mut F, ou
     ensures held { F.held files.new ≡ F.held files.old }
     ensures writes { (name : List ℕ) → F.write_count files.new name ≡ F.write_count files.old name }
 {
-    match file_name(words) {
-        Ok(name) => run_file(alloc, name, files, out),
+    match command_of(words) {
+        Ok(Command { strict, file }) => run_file(alloc, strict, file, files, out),
         Err(word) => Status::Usage(word),
     }
 }
 
 // Reads the file and runs it.
 #[tactic(auto, using(crate::proofs::Sources::read_whole, crate::proofs::Sources::unread))]
-fn run_file<F: Files, K: Sink>(alloc: Global, name: &str, files: &mut F, out: &mut K) -> Status
-    ensures outcome { OutcomeOf (F.held files.old) name.now result (K.got out.old) (K.got out.new) }
+fn run_file<F: Files, K: Sink>(
+    alloc: Global,
+    strict: bool,
+    name: &str,
+    files: &mut F,
+    out: &mut K,
+) -> Status
+    ensures outcome { OutcomeOf (F.held files.old) name.now strict result (K.got out.old) (K.got out.new) }
     ensures read_fault { result ≡ Status.ReadFault → Rose (F.read_count files.old name.now) (F.read_count files.new name.now) }
     ensures write_fault { WriteCause result (K.count out.old) (K.count out.new) }
     ensures held { F.held files.new ≡ F.held files.old }
     ensures writes { (q : List ℕ) → F.write_count files.new q ≡ F.write_count files.old q }
 {
     match files.read(alloc, name, MOST) {
-        Ok(source) => run_source(alloc, source.as_slice(), out),
+        Ok(source) => run_source(alloc, strict, source.as_slice(), out),
         Err(FileFault::Failed) => Status::ReadFault,
         Err(FileFault::Memory) => Status::Memory,
     }

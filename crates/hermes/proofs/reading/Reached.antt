@@ -3,7 +3,7 @@ use Rattle.std.proofs.Common.{◌≡◌, ℕ, suc, ◌+◌, ◌-◌, ◌<◌, �
 use Rattle.std.specs.List.{list_all}
 use denote.Bor.{Bor}
 use Rattle.std.proofs.lemmas.List.{append-nil, take_more, drop_more, take-append-drop, take_all, take-take, drop-take}
-use Rattle.hermes.specs.FirstTexts.{directive, call_tokens, argument_tokens, Spaced, is_number, is_argument, IsFirst, IsStuck, weight}
+use Rattle.hermes.specs.FirstTexts.{directive, call_tokens, argument_tokens, Spaced, is_number, is_argument, IsFirst, Begins, IsStuck, weight}
 use Rattle.hermes.specs.Reading.{Step, step_tokens, operator_byte, steps_of, steps_with, later_steps, Follow, FollowSum, Rest, RestToken, RestText, RestNumber, Moves, Halts, IsState, Stepped, IsRead, is_between, Reads}
 use Rattle.hermes.proofs.reading.Spacing.{spaced_nil, spaced_end, begin_spaced}
 use Rattle.hermes.proofs.reading.SumSteps.{some_sum, sum_tokens_are}
@@ -88,34 +88,17 @@ some_end source at (state.Text start) done within valid =
     in_text_ends (slice_range source start at) done (omega (arith, valid))
 some_end source at (state.Number before value) done within valid = value_ends before value done valid
 
--- the start, and one byte on
-pub read_start : (source : List ℕ) (part : Bor (List ℕ)) → part.now ≡ directive → IsRead source 0 (state.Token part next.Call) []
-read_start source part e = record {
-  valid = tt;
-  on = λ r calls x. (flat_map call_tokens calls, (calls, refl, x.parts, refl), subst (λ (p : List ℕ). Spaced (p ∷ flat_map call_tokens calls) r) (sym e) x.spelled);
-  back = λ r calls x.
-      let f = x.1 in
-      let tokens : x.0 ≡ flat_map call_tokens calls = f.3 ∙ ap (λ (y : List Argument). flat_map call_tokens y) (sym f.1) in
-      let spelled : Spaced (directive ∷ x.0) r = subst (λ (p : List ℕ). Spaced (p ∷ x.0) r) e x.2 in
-      record {
-        parts = ap (λ (y : List Argument). all_arguments y) f.1 ∙ f.2;
-        spelled = subst (λ (y : List (List ℕ)). Spaced (directive ∷ y) r) tokens spelled;
-      };
-}
-  where
-    all_arguments : List Argument → Bool
-    all_arguments calls = list_all is_argument calls
-
-next_take : (source : List ℕ) (at : ℕ) (r : List ℕ) → at < length source → take (at + 1) source ++ r ≡ take at source ++ (slice_index source at ∷ r)
+-- one byte on
+pub next_take : (source : List ℕ) (at : ℕ) (r : List ℕ) → at < length source → take (at + 1) source ++ r ≡ take at source ++ (slice_index source at ∷ r)
 next_take source at r high =
     ap (λ (y : List ℕ). y ++ r) (take_more source at 0 high) ∙ append_assoc (take at source) (slice_index source at ∷ []) r
 
-pub read_next : (source : List ℕ) (at : ℕ) (now new : State) (done more : List Argument) → at < length source → IsRead source at now done →
-    IsState (at + 1) new → Moves (Rest source at now done) (Rest source (at + 1) new more) (slice_index source at) → IsRead source (at + 1) new more
-read_next source at now new done more high read valid moves = record {
+pub read_next : (strict : Bool) (source : List ℕ) (at : ℕ) (now new : State) (done more : List Argument) → at < length source → IsRead strict source at now done →
+    IsState (at + 1) new → Moves (Rest source at now done) (Rest source (at + 1) new more) (slice_index source at) → IsRead strict source (at + 1) new more
+read_next strict source at now new done more high read valid moves = record {
   valid = valid;
-  on = λ r calls x. moves.on r calls (read.on (slice_index source at ∷ r) calls (subst (IsFirst calls) (next_take source at r high) x));
-  back = λ r calls x. subst (IsFirst calls) (sym (next_take source at r high)) (read.back (slice_index source at ∷ r) calls (moves.back r calls x));
+  on = λ r calls x. moves.on r calls (read.on (slice_index source at ∷ r) calls (subst (IsFirst strict calls) (next_take source at r high) x));
+  back = λ r calls x. subst (IsFirst strict calls) (sym (next_take source at r high)) (read.back (slice_index source at ∷ r) calls (moves.back r calls x));
 }
 
 -- no step leads on
@@ -131,11 +114,13 @@ longer_take source at k high =
     ∙ ap (λ (y : List ℕ). y ++ drop at (take (at + suc k) source)) front
     ∙ ap (λ (y : List ℕ). take at source ++ y) back
 
-pub halted : (source : List ℕ) (at : ℕ) (now : State) (done : List Argument) → at < length source → IsRead source at now done → Halts (Rest source at now done) (slice_index source at) → IsStuck source at
-halted source at now done high read halts = record {
-  none = λ calls x. halts (drop (at + 1) source) calls (read.on (slice_index source at ∷ drop (at + 1) source) calls (subst (IsFirst calls) (sym (split_at source at high)) x));
+-- where the bytes that go on from here are those of `old`, and none that begin with the next byte are
+pub halted_by : (strict : Bool) (source : List ℕ) (at : ℕ) (old : List ℕ → List Argument → Type 0) → at < length source → Begins strict (take at source)
+    → ((r : List ℕ) (calls : List Argument) → IsFirst strict calls (take at source ++ r) → old r calls) → Halts old (slice_index source at) → IsStuck strict source at
+halted_by strict source at old high begins on halts = record {
+  none = λ calls x. halts (drop (at + 1) source) calls (on (slice_index source at ∷ drop (at + 1) source) calls (subst (IsFirst strict calls) (sym (split_at source at high)) x));
   within = omega arith;
-  begins = let x = some_end source at now done (omega arith) read.valid in (x.1, x.0, read.back x.0 x.1 x.2);
+  begins = begins;
   longest = λ n more within x.
       let size : n ≡ at + suc (n - at - 1) = omega arith in
       let k : ℕ = n - at - 1 in
@@ -143,17 +128,22 @@ halted source at now done high read halts = record {
       ap (λ (m : ℕ). take m source ++ x.1) size
       ∙ ap (λ (y : List ℕ). y ++ x.1) (longer_take source at k high)
       ∙ append_assoc (take at source) (slice_index source at ∷ take k (drop (at + 1) source)) x.1 in
-      halts (take k (drop (at + 1) source) ++ x.1) x.0 (read.on (slice_index source at ∷ (take k (drop (at + 1) source) ++ x.1)) x.0 (subst (IsFirst x.0) spelled x.2));
+      halts (take k (drop (at + 1) source) ++ x.1) x.0 (on (slice_index source at ∷ (take k (drop (at + 1) source) ++ x.1)) x.0 (subst (IsFirst strict x.0) spelled x.2));
 }
+
+pub halted : (strict : Bool) (source : List ℕ) (at : ℕ) (now : State) (done : List Argument) → at < length source → IsRead strict source at now done → Halts (Rest source at now done) (slice_index source at) → IsStuck strict source at
+halted strict source at now done high read halts =
+    let x = some_end source at now done (omega arith) read.valid in
+    halted_by strict source at (Rest source at now done) high (x.1, x.0, read.back x.0 x.1 x.2) read.on halts
 
 -- at the end of the source
 whole_take : (source : List ℕ) (n : ℕ) → n ≡ length source → take n source ++ [] ≡ source
 whole_take source n e = append-nil (take n source) ∙ take_all n source (omega arith)
 
-pub unfinished : (source : List ℕ) (n : ℕ) (now : State) (done : List Argument) → n ≡ length source → IsRead source n now done →
-    ((calls : List Argument) → Rest source n now done [] calls → ⊥) → IsStuck source n
-unfinished source n now done size read none = record {
-  none = λ calls x. none calls (read.on [] calls (subst (IsFirst calls) (sym (whole_take source n size)) x));
+pub unfinished : (strict : Bool) (source : List ℕ) (n : ℕ) (now : State) (done : List Argument) → n ≡ length source → IsRead strict source n now done →
+    ((calls : List Argument) → Rest source n now done [] calls → ⊥) → IsStuck strict source n
+unfinished strict source n now done size read none = record {
+  none = λ calls x. none calls (read.on [] calls (subst (IsFirst strict calls) (sym (whole_take source n size)) x));
   within = omega arith;
   begins = let x = some_end source n now done (omega arith) read.valid in (x.1, x.0, read.back x.0 x.1 x.2);
   longest = λ m more within x. absurd (omega arith);
@@ -217,59 +207,59 @@ nothing (y ∷ part) h = absurd (bad (length part) h)
     bad : (n : ℕ) → (suc n == 0) ≡ true → ⊥
     bad n h = grind (arith, h)
 
-pub between : (source : List ℕ) (n : ℕ) (now : State) (done : List Argument) → n ≡ length source → is_between now ≡ true → IsRead source n now done → Reads source (Ok done)
-between source n (state.Token part next.Call) done size h read =
+pub between : (strict : Bool) (source : List ℕ) (n : ℕ) (now : State) (done : List Argument) → n ≡ length source → is_between now ≡ true → IsRead strict source n now done → Reads strict source (Ok done)
+between strict source n (state.Token part next.Call) done size h read =
     let empty : part.now ≡ [] = nothing part.now h in
     let here : RestToken part.now next.Call done [] done = subst (λ (p : List ℕ). RestToken p next.Call done [] done) (sym empty) (call_end done) in (
-      subst (IsFirst done) (whole_take source n size) (read.back [] done here),
+      subst (IsFirst strict done) (whole_take source n size) (read.back [] done here),
       λ calls x.
-          let y = read.on [] calls (subst (IsFirst calls) (sym (whole_take source n size)) x) in
+          let y = read.on [] calls (subst (IsFirst strict calls) (sym (whole_take source n size)) x) in
           let spaced : Spaced ([] ∷ y.0) [] = subst (λ (p : List ℕ). Spaced (p ∷ y.0) []) empty y.2 in
           let none : y.0 ≡ [] = spaced_end y.0 (follow_solid next.Call done y.0 calls y.1) spaced in
           let end : y.1.0 ≡ [] = no_more y.1.0 (sym y.1.3 ∙ none) in
           y.1.1 ∙ ap (λ (more : List Argument). done ++ more) end ∙ append-nil done,
     )
-between source n (state.Token part next.Open) done size h read = cc
-between source n (state.Token part next.Argument) done size h read = cc
-between source n (state.Token part next.Close) done size h read = cc
-between source n (state.Token part next.End) done size h read = cc
-between source n (state.Token part (next.Operator s)) done size h read = cc
-between source n (state.Token part (next.Number s op)) done size h read = cc
-between source n (state.Text start) done size h read = cc
-between source n (state.Number before value) done size h read = cc
+between strict source n (state.Token part next.Open) done size h read = cc
+between strict source n (state.Token part next.Argument) done size h read = cc
+between strict source n (state.Token part next.Close) done size h read = cc
+between strict source n (state.Token part next.End) done size h read = cc
+between strict source n (state.Token part (next.Operator s)) done size h read = cc
+between strict source n (state.Token part (next.Number s op)) done size h read = cc
+between strict source n (state.Text start) done size h read = cc
+between strict source n (state.Number before value) done size h read = cc
 
-pub failed : (source : List ℕ) (at : ℕ) (now : State) (done new : List Argument) (why : FirstFault) → at < length source → IsRead source at now done →
-    Stepped (Rest source at now done) source at (slice_index source at) new (Err why) → Reads source (Err why)
-failed source at now done new (fault.NotYet n) high read x = subst (IsStuck source) (sym x.0) (halted source at now done high read x.1)
-failed source at now done new fault.Memory high read x = tt
+pub failed : (strict : Bool) (source : List ℕ) (at : ℕ) (now : State) (done new : List Argument) (why : FirstFault) → at < length source → IsRead strict source at now done →
+    Stepped (Rest source at now done) source at (slice_index source at) new (Err why) → Reads strict source (Err why)
+failed strict source at now done new (fault.NotYet n) high read x = subst (IsStuck strict source) (sym x.0) (halted strict source at now done high read x.1)
+failed strict source at now done new fault.Memory high read x = tt
 
 -- What reading gives is settled by the source.
-pub found_of : (source : List ℕ) (result : Result (List Argument) FirstFault) → Reads source result → IfOk result (λ calls. IsFirst calls source)
-found_of source (Ok calls) x = x.0
-found_of source (Err why) x = tt
+pub found_of : (strict : Bool) (source : List ℕ) (result : Result (List Argument) FirstFault) → Reads strict source result → IfOk result (λ calls. IsFirst strict calls source)
+found_of strict source (Ok calls) x = x.0
+found_of strict source (Err why) x = tt
 
-pub only_of : (source : List ℕ) (result : Result (List Argument) FirstFault) (calls : List Argument) → Reads source result → IsFirst calls source → (result ≡ Ok calls) ⊎ (result ≡ Err fault.Memory)
-only_of source (Ok found) calls x f = inl (ap (λ (y : List Argument). Ok y) (sym (x.1 calls f)))
-only_of source (Err (fault.NotYet at)) calls x f = absurd (x.none calls f)
-only_of source (Err fault.Memory) calls x f = inr refl
+pub only_of : (strict : Bool) (source : List ℕ) (result : Result (List Argument) FirstFault) (calls : List Argument) → Reads strict source result → IsFirst strict calls source → (result ≡ Ok calls) ⊎ (result ≡ Err fault.Memory)
+only_of strict source (Ok found) calls x f = inl (ap (λ (y : List Argument). Ok y) (sym (x.1 calls f)))
+only_of strict source (Err (fault.NotYet at)) calls x f = absurd (x.none calls f)
+only_of strict source (Err fault.Memory) calls x f = inr refl
 
-pub stuck_of : (source : List ℕ) (result : Result (List Argument) FirstFault) (at : ℕ) → Reads source result → result ≡ Err (fault.NotYet at) → IsStuck source at
-stuck_of source result at x e = let P : Result (List Argument) FirstFault → Type 0 = Reads source in subst P e x
+pub stuck_of : (strict : Bool) (source : List ℕ) (result : Result (List Argument) FirstFault) (at : ℕ) → Reads strict source result → result ≡ Err (fault.NotYet at) → IsStuck strict source at
+stuck_of strict source result at x e = let P : Result (List Argument) FirstFault → Type 0 = Reads strict source in subst P e x
 
-one_place : (source : List ℕ) (m n : ℕ) → IsStuck source m → IsStuck source n → m < n → ⊥
-one_place source m n x y less = x.longest n less y.within y.begins
+one_place : (strict : Bool) (source : List ℕ) (m n : ℕ) → IsStuck strict source m → IsStuck strict source n → m < n → ⊥
+one_place strict source m n x y less = x.longest n less y.within y.begins
 
-same_place : (source : List ℕ) (m n : ℕ) → IsStuck source m → IsStuck source n → m ≡ n
-same_place source m n x y =
-    let above : m < n → ⊥ = one_place source m n x y in
-    let below : n < m → ⊥ = one_place source n m y x in
+same_place : (strict : Bool) (source : List ℕ) (m n : ℕ) → IsStuck strict source m → IsStuck strict source n → m ≡ n
+same_place strict source m n x y =
+    let above : m < n → ⊥ = one_place strict source m n x y in
+    let below : n < m → ⊥ = one_place strict source n m y x in
     grind (arith, above, below)
 
-pub place_of : (source : List ℕ) (result : Result (List Argument) FirstFault) (at : ℕ) → Reads source result → IsStuck source at → (result ≡ Err (fault.NotYet at)) ⊎ (result ≡ Err fault.Memory)
-place_of source (Ok found) at x y = absurd (y.none found x.0)
-place_of source (Err (fault.NotYet n)) at x y = inl (ap (λ (m : ℕ). Err (fault.NotYet m)) (same_place source n at x y))
-place_of source (Err fault.Memory) at x y = inr refl
+pub place_of : (strict : Bool) (source : List ℕ) (result : Result (List Argument) FirstFault) (at : ℕ) → Reads strict source result → IsStuck strict source at → (result ≡ Err (fault.NotYet at)) ⊎ (result ≡ Err fault.Memory)
+place_of strict source (Ok found) at x y = absurd (y.none found x.0)
+place_of strict source (Err (fault.NotYet n)) at x y = inl (ap (λ (m : ℕ). Err (fault.NotYet m)) (same_place strict source n at x y))
+place_of strict source (Err fault.Memory) at x y = inr refl
 
-pub weight_of_read : (source : List ℕ) (result : Result (List Argument) FirstFault) → Reads source result → IfOk result (λ calls. weight calls + 13 ≤ length source)
-weight_of_read source (Ok calls) x = weighs calls source x.0
-weight_of_read source (Err why) x = tt
+pub weight_of_read : (strict : Bool) (source : List ℕ) (result : Result (List Argument) FirstFault) → Reads strict source result → IfOk result (λ calls. weight calls ≤ length source)
+weight_of_read strict source (Ok calls) x = weighs strict calls source x.0
+weight_of_read strict source (Err why) x = tt

@@ -111,7 +111,7 @@ open_halts done b solid other r calls x = other (fixed 40 b [] x.0 x.1.0 r x.1.1
 closing : List (List ℕ)
 closing = (41 ∷ []) ∷ (59 ∷ []) ∷ []
 
-call_opens : (more : List Argument) (done : List Argument) (tokens : List (List ℕ)) (calls : List Argument) (b : ℕ) (r : List ℕ) →
+pub call_opens : (more : List Argument) (done : List Argument) (tokens : List (List ℕ)) (calls : List Argument) (b : ℕ) (r : List ℕ) →
     calls ≡ done ++ more → list_all is_argument more ≡ true → tokens ≡ flat_map call_tokens more → Spaced tokens (b ∷ r) → (b ≡ 112) × RestToken (codes "rint") next.Open done r calls
 call_opens [] done tokens calls b r e h t s = let bad : b ∷ r ≡ [] = subst (λ (y : List (List ℕ)). Spaced y (b ∷ r)) t s in cc
 call_opens (a ∷ more) done tokens calls b r e h t s =
@@ -140,7 +140,7 @@ call_opens (a ∷ more) done tokens calls b r e h t s =
       ),
     )
 
-opened : (done : List Argument) (r : List ℕ) (calls : List Argument) → RestToken (codes "rint") next.Open done r calls → RestToken [] next.Call done (112 ∷ r) calls
+pub opened : (done : List Argument) (r : List ℕ) (calls : List Argument) → RestToken (codes "rint") next.Open done r calls → RestToken [] next.Call done (112 ∷ r) calls
 opened done r calls x =
     let f = x.1 in
     let g = f.2 in

@@ -1,9 +1,9 @@
 -- A first text is at least as long as its calls weigh.
-use Rattle.std.proofs.Common.{◌≡◌, ℕ, suc, ◌+◌, ◌*◌, ◌<◌, ◌≤◌, true, List, [], ◌∷◌, ◌++◌, length, map, flat_map, refl, ap, sym, ◌∙◌, subst, length-append, decimal, arith}
+use Rattle.std.proofs.Common.{◌≡◌, ℕ, suc, ◌+◌, ◌*◌, ◌<◌, ◌≤◌, Bool, true, ◌⊎◌, inl, inr, List, [], ◌∷◌, ◌++◌, length, map, flat_map, refl, ap, sym, ◌∙◌, subst, length-append, decimal, arith}
 use Rattle.std.specs.List.{list_all}
 use Rattle.std.proofs.lemmas.Fmt.{decimal_nonempty}
 use Rattle.hermes.proofs.reading.Bools.{first_of_both, second_of_both}
-use Rattle.hermes.specs.FirstTexts.{first_tokens, call_tokens, argument_tokens, sum_tokens, Spaced, is_number, is_argument, is_sum, IsFirst, addend_numbers, further_numbers, weight_of, weight}
+use Rattle.hermes.specs.FirstTexts.{first_tokens, call_tokens, argument_tokens, sum_tokens, Spaced, is_number, is_argument, is_sum, Spells, IsFirst, addend_numbers, further_numbers, weight_of, weight}
 use Rattle.hermes.specs.Reading.{Step, times, addend_steps, later_steps, steps_of, step_tokens, is_step}
 use Rattle.hermes.proofs.reading.Numerals.{number_small}
 use Rattle.hermes.proofs.reading.SumSteps.{sum_tokens_are, sum_numbers}
@@ -88,9 +88,15 @@ calls_size (a ∷ calls) h =
     let split : size (call_tokens a ++ flat_map call_tokens calls) ≡ size (call_tokens a) + size (flat_map call_tokens calls) = size_append (call_tokens a) (flat_map call_tokens calls) in
     omega (arith, here, rest, split)
 
-pub weighs : (calls : List Argument) (bytes : List ℕ) → IsFirst calls bytes → weight calls + 13 ≤ length bytes
-weighs calls bytes f =
-    let all : size (first_tokens calls) ≤ length bytes = spaced_size (first_tokens calls) bytes f.spelled in
-    let calls_weigh : weight calls ≤ size (flat_map call_tokens calls) = calls_size calls f.parts in
+spelled_weighs : (strict : Bool) (calls : List Argument) (bytes : List ℕ) → Spells strict calls bytes → size (flat_map call_tokens calls) ≤ length bytes
+spelled_weighs strict calls bytes (inl s) =
+    let all : size (first_tokens calls) ≤ length bytes = spaced_size (first_tokens calls) bytes s in
     let front : size (first_tokens calls) ≡ 13 + size (flat_map call_tokens calls) = refl in
-    omega (arith, all, calls_weigh, front)
+    omega (arith, all, front)
+spelled_weighs strict calls bytes (inr s) = spaced_size (flat_map call_tokens calls) bytes s.1
+
+pub weighs : (strict : Bool) (calls : List Argument) (bytes : List ℕ) → IsFirst strict calls bytes → weight calls ≤ length bytes
+weighs strict calls bytes f =
+    let all : size (flat_map call_tokens calls) ≤ length bytes = spelled_weighs strict calls bytes f.spelled in
+    let calls_weigh : weight calls ≤ size (flat_map call_tokens calls) = calls_size calls f.parts in
+    omega (arith, all, calls_weigh)

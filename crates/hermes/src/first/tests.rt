@@ -5,7 +5,7 @@ use std::test::Fail;
 
 // Where reading stops, or None where all is read.
 fn stop(alloc: Global, source: &[u8]) -> Result<Option<usize>, FirstFault> {
-    match read_first(alloc, source) {
+    match read_first(alloc, false, source) {
         Ok(_) => Ok(None),
         Err(FirstFault::NotYet(at)) => Ok(Some(at)),
         Err(FirstFault::Memory) => Err(FirstFault::Memory),
@@ -15,7 +15,7 @@ fn stop(alloc: Global, source: &[u8]) -> Result<Option<usize>, FirstFault> {
 #[test]
 fn reads_texts_and_sums(rt: HostRuntime) -> Result<(), Fail> {
     let source = b"\"use strict\";print(\"a b\"); print(2*3-10);";
-    let calls = read_first(rt.alloc(), source)?;
+    let calls = read_first(rt.alloc(), false, source)?;
     let arguments = calls.as_slice();
     assert_eq!(rt; arguments.len(), 2);
     match &arguments[0] {

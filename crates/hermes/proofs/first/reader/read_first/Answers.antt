@@ -3,13 +3,14 @@ use Rattle.hermes.proofs.first.reader.read_first.Goals as goal
 
 pub returns : goal.returns
 returns c =
+    let strict = c.args.strict in
     let source = c.args.source.now in
-    let result = c.read.result in
-    let reads = c.read.ensures in
+    let result = c.read_any.result in
+    let reads = c.read_any.ensures in
     record {
-      found = found_of source result reads;
-      only = λ calls f. only_of source result calls reads f;
-      stuck = λ at e. stuck_of source result at reads e;
-      place = λ at y. place_of source result at reads y;
-      weight = weight_of_read source result reads;
+      found = found_of strict source result reads;
+      only = λ calls f. only_of strict source result calls reads f;
+      stuck = λ at e. stuck_of strict source result at reads e;
+      place = λ at y. place_of strict source result at reads y;
+      weight = weight_of_read strict source result reads;
     }
