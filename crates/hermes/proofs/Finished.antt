@@ -4,6 +4,7 @@ use Rattle.std.specs.Option.{option_map_or}
 use Rattle.hz_value.specs.declared.leaving.Left.{Left}
 use Rattle.hz_value.specs.declared.leaving.Left.TheVariants.{NotSafe}
 use Rattle.hz_ops.specs.Runs.{End, LeftFor, BadCode, start_of, Ends}
+use Rattle.hz_tree.specs.Refusals.{refusal_of}
 use Rattle.hermes.specs.declared.first.language.Argument.{Argument}
 use Rattle.hermes.specs.declared.status.Status.TheVariants as status
 use Rattle.hermes.specs.declared.first.run.stop.FirstEnd.{FirstEnd}
@@ -29,19 +30,19 @@ abbrev pub AgreesWith : (file : List ℕ) (old new : Option (List ℕ)) → Firs
 AgreesWith file old new answer = (lines : List (List ℕ)) (end : End) → Ends (code_in file) (start_of (code_in file)) lines end → Agrees lines end old new answer
 
 -- by the answer of the run
-pub run_done : (strict : Bool) (source file : List ℕ) (old new : Option (List ℕ)) → Compiles strict source file → AgreesWith file old new first_end.Done → Outcome status.Done strict source old new
-run_done strict source file old new (calls, c) agrees =
-    let a = agrees (lines_of calls) (end_of calls) c.says in (calls, c.accepted, a.0, a.1)
+pub run_done : (strict : Bool) (source file : List ℕ) (old new : Option (List ℕ)) → refusal_of source strict ≡ None → Compiles strict source file → AgreesWith file old new first_end.Done → Outcome status.Done strict source old new
+run_done strict source file old new read (calls, c) agrees =
+    let a = agrees (lines_of calls) (end_of calls) c.says in (calls, record { unrefused = read; accepted = c.accepted }, a.0, a.1)
 
-pub run_left : (strict : Bool) (source file : List ℕ) (old new : Option (List ℕ)) (reason : Left) → Compiles strict source file → AgreesWith file old new (first_end.Left reason) → Outcome (status.Left reason) strict source old new
-run_left strict source file old new reason (calls, c) agrees =
-    let a = agrees (lines_of calls) (end_of calls) c.says in (calls, c.accepted, a.0, a.1)
+pub run_left : (strict : Bool) (source file : List ℕ) (old new : Option (List ℕ)) (reason : Left) → refusal_of source strict ≡ None → Compiles strict source file → AgreesWith file old new (first_end.Left reason) → Outcome (status.Left reason) strict source old new
+run_left strict source file old new reason read (calls, c) agrees =
+    let a = agrees (lines_of calls) (end_of calls) c.says in (calls, record { unrefused = read; accepted = c.accepted }, a.0, a.1)
 
 pub run_bad : (strict : Bool) (source file : List ℕ) (old new : Option (List ℕ)) → Compiles strict source file → AgreesWith file old new first_end.BadCode → ⊥
 run_bad strict source file old new (calls, c) agrees = not_bad calls (agrees (lines_of calls) (end_of calls) c.says).0
 
-pub run_fault : (strict : Bool) (source file : List ℕ) (old new : Option (List ℕ)) → Compiles strict source file → AgreesWith file old new first_end.WriteFault → PrintedFront strict source old new
-run_fault strict source file old new (calls, c) agrees = (calls, c.accepted, agrees (lines_of calls) (end_of calls) c.says)
+pub run_fault : (strict : Bool) (source file : List ℕ) (old new : Option (List ℕ)) → refusal_of source strict ≡ None → Compiles strict source file → AgreesWith file old new first_end.WriteFault → PrintedFront strict source old new
+run_fault strict source file old new read (calls, c) agrees = (calls, record { unrefused = read; accepted = c.accepted }, agrees (lines_of calls) (end_of calls) c.says)
 
-pub run_memory : (strict : Bool) (source file : List ℕ) (old new : Option (List ℕ)) → Compiles strict source file → AgreesWith file old new first_end.Memory → PrintedFront strict source old new
-run_memory strict source file old new (calls, c) agrees = (calls, c.accepted, agrees (lines_of calls) (end_of calls) c.says)
+pub run_memory : (strict : Bool) (source file : List ℕ) (old new : Option (List ℕ)) → refusal_of source strict ≡ None → Compiles strict source file → AgreesWith file old new first_end.Memory → PrintedFront strict source old new
+run_memory strict source file old new read (calls, c) agrees = (calls, record { unrefused = read; accepted = c.accepted }, agrees (lines_of calls) (end_of calls) c.says)

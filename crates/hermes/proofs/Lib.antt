@@ -1,6 +1,7 @@
 pub mod Ascii
 pub mod Compiling
 pub mod Finished
+pub mod Refused
 pub mod Sources
 pub mod generating
 pub mod reading

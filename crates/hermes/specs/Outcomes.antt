@@ -4,29 +4,42 @@ use Rattle.std.specs.Io.KnownBytes.{Appends, Keeps}
 use Rattle.hz_ops.specs.Runs.{End, Done, LeftFor}
 use Rattle.hz_io.specs.Contents.{Contents}
 use Rattle.hermes.specs.declared.first.language.Argument.{Argument}
-use Rattle.hermes.specs.declared.status.Refusal.TheVariants.{NotYet}
+use Rattle.hz_tree.specs.declared.refusal.Refusal.{Refusal}
+use Rattle.hz_tree.specs.declared.refusal.Refusal.TheVariants.{NotYet}
+use Rattle.hz_tree.specs.Refusals.{refusal_of}
 use Rattle.hermes.specs.declared.status.Status.{Status}
 use Rattle.hermes.specs.declared.status.Status.TheVariants as status
 use Rattle.hermes.specs.FirstTexts.{IsAccepted, IsRefused}
 use Rattle.hermes.specs.Saying.{lines_of, end_of}
 use Rattle.hermes.specs.Printing.{printed, AppendsPrefix}
 
+-- The source is no refused one, read as strict or not, and a first text with these calls.
+pub record IsRunnable (strict : Bool) (source : List ℕ) (calls : List Argument) : Type 0 where
+  pub unrefused : refusal_of source strict ≡ None
+  pub accepted : IsAccepted strict source calls
+
+-- Why the source does not run: what the language refuses, or else what is not built yet, with the place of
+-- `IsRefused`.
+abbrev pub IsRefusedFor : Bool → List ℕ → Refusal → Type 0
+IsRefusedFor strict source (NotYet at) = (refusal_of source strict ≡ None) × IsRefused strict source at
+IsRefusedFor strict source r = refusal_of source strict ≡ Some r
+
 -- The source runs, read as strict or not, ends so, and all of its lines went out.
 abbrev pub Printed : End → Bool → List ℕ → Option (List ℕ) → Option (List ℕ) → Type 0
 Printed end strict source old new =
-    (calls : List Argument) × IsAccepted strict source calls × (end_of calls ≡ end) × Appends old new (printed (lines_of calls))
+    (calls : List Argument) × IsRunnable strict source calls × (end_of calls ≡ end) × Appends old new (printed (lines_of calls))
 
 -- The source runs, and a front of its lines' bytes went out.
 abbrev pub PrintedFront : Bool → List ℕ → Option (List ℕ) → Option (List ℕ) → Type 0
 PrintedFront strict source old new =
-    (calls : List Argument) × IsAccepted strict source calls × AppendsPrefix old new (printed (lines_of calls))
+    (calls : List Argument) × IsRunnable strict source calls × AppendsPrefix old new (printed (lines_of calls))
 
 -- What a status says of the source, and of what went out: `old` is what standard output had got before the call,
 -- and `new` behind it, where it tells this. Which case comes is determined by the source, but for faults and memory.
 abbrev pub Outcome : Status → Bool → List ℕ → Option (List ℕ) → Option (List ℕ) → Type 0
 Outcome status.Done strict source old new = Printed Done strict source old new
 Outcome (status.Left reason) strict source old new = Printed (LeftFor reason) strict source old new
-Outcome (status.Refused (NotYet at)) strict source old new = IsRefused strict source at × Keeps old new
+Outcome (status.Refused refusal) strict source old new = IsRefusedFor strict source refusal × Keeps old new
 Outcome status.ReadFault strict source old new = Keeps old new
 Outcome status.WriteFault strict source old new = PrintedFront strict source old new
 Outcome status.Memory strict source old new = PrintedFront strict source old new ⊎ Keeps old new

@@ -1,8 +1,7 @@
 -- The table of statuses: the code that the process ends with, and the line on standard error.
 use Rattle.std.specs.Prelude.{ℕ, List, [], ◌∷◌, ◌++◌, codes, decimal}
+use Rattle.hz_tree.specs.Shown.{text_of_refusal}
 use Rattle.hz_value.specs.Leaving.{name_of_left}
-use Rattle.hermes.specs.declared.status.Refusal.{Refusal}
-use Rattle.hermes.specs.declared.status.Refusal.TheVariants.{NotYet}
 use Rattle.hermes.specs.declared.status.Status.{Status}
 use Rattle.hermes.specs.declared.status.Status.TheVariants.{Done, Usage, Refused, Left, ReadFault, WriteFault, Memory}
 
@@ -15,15 +14,11 @@ code_of ReadFault = 7
 code_of WriteFault = 8
 code_of Memory = 70
 
--- a refusal as it is printed
-abbrev pub refusal_text : Refusal → List ℕ
-refusal_text (NotYet at) = codes "NotYet at " ++ decimal at
-
 -- the line of bytes with its newline (10), or nothing
 abbrev pub line_of : Status → List ℕ
 line_of Done = []
 line_of (Usage word) = codes "usage error at word " ++ decimal word ++ 10 ∷ []
-line_of (Refused refusal) = codes "refused: " ++ refusal_text refusal ++ 10 ∷ []
+line_of (Refused refusal) = codes "refused: " ++ text_of_refusal refusal ++ 10 ∷ []
 line_of (Left reason) = codes "left: " ++ name_of_left reason ++ 10 ∷ []
 line_of ReadFault = codes "read fault" ++ 10 ∷ []
 line_of WriteFault = codes "write fault" ++ 10 ∷ []

@@ -4,6 +4,7 @@ ghost use Rattle.std.specs.Prelude.{◌≡◌, ℕ, List, None};
 ghost use Rattle.hz_file.specs.Layout.{HasMagic};
 ghost use Rattle.hz_file.specs.Opening.{rule};
 ghost use Rattle.hz_ops.specs.Runs.{End, start_of, Ends, IsBuilt};
+ghost use Rattle.hz_tree.specs.Refusals.{refusal_of};
 ghost use Rattle.hermes.specs.Compiled.{Compiles, code_in};
 ghost use Rattle.hermes.specs.Effects.{WriteCause};
 ghost use Rattle.hermes.specs.FirstRun.{Agrees, Counts};
@@ -12,13 +13,30 @@ ghost use Rattle.hermes.specs.Outcomes.{Outcome};
 use crate::first::compile::compile_first;
 use crate::first::language::FirstFault;
 use crate::first::run::{FirstEnd, run_first};
-use crate::status::{Refusal, Status};
+use crate::status::Status;
 use hz_file::File;
 use hz_io::Sink;
+use hz_preparse::{PreFault, preparse};
+use hz_tree::Refusal;
 use std::alloc::Global;
 
-/// Compiles the source to the bytes of a file with this flag, opens that file, and runs it.
+/// Refuses the source, or compiles it to the bytes of a file with this flag, opens that file, and runs it.
+#[tactic(auto, using(crate::proofs::Refused::by_language))]
 pub fn run_source<K: Sink>(alloc: Global, strict: bool, source: &[u8], out: &mut K) -> Status
+    ensures outcome { Outcome result strict source.now (K.got out.old) (K.got out.new) }
+    ensures read { result ≡ Status.ReadFault → ⊥ }
+    ensures cause { WriteCause result (K.count out.old) (K.count out.new) }
+{
+    match preparse(alloc, source, strict) {
+        Ok(_index) => run_read(alloc, strict, source, out),
+        Err(PreFault::Refused(refusal)) => Status::Refused(refusal),
+        Err(PreFault::Memory) => Status::Memory,
+    }
+}
+
+// Compiles a source that is not refused, and runs it.
+fn run_read<K: Sink>(alloc: Global, strict: bool, source: &[u8], out: &mut K) -> Status
+    requires { refusal_of source.now strict ≡ None }
     ensures outcome { Outcome result strict source.now (K.got out.old) (K.got out.new) }
     ensures read { result ≡ Status.ReadFault → ⊥ }
     ensures cause { WriteCause result (K.count out.old) (K.count out.new) }
@@ -38,7 +56,8 @@ fn run_compiled<K: Sink>(
     bytes: &[u8],
     out: &mut K,
 ) -> Status
-    requires { Compiles _strict _source.now bytes.now }
+    requires read { refusal_of _source.now _strict ≡ None }
+    requires compiled { Compiles _strict _source.now bytes.now }
     ensures outcome { Outcome result _strict _source.now (K.got out.old) (K.got out.new) }
     ensures read { result ≡ Status.ReadFault → ⊥ }
     ensures cause { WriteCause result (K.count out.old) (K.count out.new) }

@@ -1,19 +1,14 @@
 // How a call of the command ends: its status, the code that the process ends with, and the line on standard error.
 
-ghost use Rattle.std.specs.Prelude.{◌≡◌, ℕ, ◌+◌, ◌≤◌, List, [], ◌∷◌, ◌++◌, decimal, length};
+ghost use Rattle.std.specs.Prelude.{◌≡◌, ℕ, ◌+◌, ◌≤◌, List, [], ◌∷◌, ◌++◌, codes, decimal, length};
+ghost use Rattle.hz_tree.specs.Shown.{name_of_kind, text_of_refusal};
 ghost use Rattle.hz_value.specs.Leaving.{name_of_left};
 ghost use Rattle.hermes.specs.Statuses.{code_of, line_of};
 
 use arrayvec::ArrayVec;
+use hz_tree::{OutsideKind, Refusal};
 use hz_value::Left;
 use itoa::Buffer;
-
-/// Why a source is not compiled.
-#[derive(Clone, Copy, Debug, PartialEq, Eq)]
-pub enum Refusal {
-    /// The source goes past what is built so far. This is the place, in bytes, up to which it does not.
-    NotYet(usize),
-}
 
 /// How a call of the command ended.
 #[derive(Clone, Copy, Debug, PartialEq, Eq)]
@@ -41,7 +36,7 @@ pub enum Status {
 }
 
 /// A line on standard error.
-type Line = ArrayVec<u8, 64>;
+type Line = ArrayVec<u8, 128>;
 
 impl Status {
     /// The code that the process ends with.
@@ -66,12 +61,62 @@ impl Status {
         match self {
             Status::Done => ArrayVec::new(),
             Status::Usage(word) => numbered(b"usage error at word ", *word),
-            Status::Refused(Refusal::NotYet(at)) => numbered(b"refused: NotYet at ", *at),
+            Status::Refused(refusal) => refused(*refusal),
             Status::Left(reason) => joined(b"left: ", name_of(*reason).as_bytes()),
             Status::ReadFault => joined(b"read ", b"fault"),
             Status::WriteFault => joined(b"write ", b"fault"),
             Status::Memory => joined(b"out of ", b"memory"),
         }
+    }
+}
+
+// A refusal, with its place where it has one.
+fn refused(refusal: Refusal) -> Line
+    ensures { result.items ≡ codes "refused: " ++ text_of_refusal refusal ++ 10 ∷ [] }
+{
+    match refusal {
+        Refusal::TooLong => joined(b"refused: ", b"TooLong"),
+        Refusal::NotUtf8(at) => numbered(b"refused: NotUtf8 at ", at),
+        Refusal::Syntax(at) => numbered(b"refused: Syntax at ", at),
+        Refusal::Outside(kind, at) => outside(kind, at),
+        Refusal::Sloppy => joined(b"refused: ", b"Sloppy"),
+        Refusal::NotYet(at) => numbered(b"refused: NotYet at ", at),
+    }
+}
+
+fn outside(kind: OutsideKind, at: usize) -> Line
+    ensures { result.items ≡ codes "refused: Outside(" ++ name_of_kind kind ++ codes ") at " ++ decimal at ++ 10 ∷ [] }
+{
+    let mut digits = Buffer::new();
+    let mut line = ArrayVec::new();
+    add(&mut line, b"refused: Outside(");
+    add(&mut line, name_of_outside(kind).as_bytes());
+    add(&mut line, b") at ");
+    add(&mut line, digits.format(at).as_bytes());
+    line.push(b'\n');
+    line
+}
+
+fn name_of_outside(kind: OutsideKind) -> &'static str
+    ensures name { result.now ≡ name_of_kind kind }
+    ensures short { length result.now ≤ 16 }
+{
+    match kind {
+        OutsideKind::Class => "Class",
+        OutsideKind::Async => "Async",
+        OutsideKind::Module => "Module",
+        OutsideKind::With => "With",
+        OutsideKind::RegExp => "RegExp",
+        OutsideKind::BigInt => "BigInt",
+        OutsideKind::NumberForm => "NumberForm",
+        OutsideKind::TaggedTemplate => "TaggedTemplate",
+        OutsideKind::Pattern => "Pattern",
+        OutsideKind::DefaultParameter => "DefaultParameter",
+        OutsideKind::Super => "Super",
+        OutsideKind::PrivateName => "PrivateName",
+        OutsideKind::IdentifierEscape => "IdentifierEscape",
+        OutsideKind::HtmlComment => "HtmlComment",
+        OutsideKind::Character => "Character",
     }
 }
 
@@ -113,7 +158,7 @@ fn joined(words: &[u8], more: &[u8]) -> Line
 }
 
 fn add(line: &mut Line, bytes: &[u8])
-    requires { length line.old.items + length bytes.now ≤ 64 }
+    requires { length line.old.items + length bytes.now ≤ 128 }
     ensures { line.new.items ≡ line.old.items ++ bytes.now }
 {
     match line.try_extend_from_slice(bytes) {

@@ -1,8 +1,9 @@
 // Calls of the command over files and streams in memory.
 
-use crate::status::{Refusal, Status};
+use crate::status::Status;
 use crate::uncounted;
 use hz_io::{Files, MemFiles, MemSink, MemSource};
+use hz_tree::Refusal;
 use hz_value::Left;
 use std::alloc::Global;
 use std::marker::Brand;

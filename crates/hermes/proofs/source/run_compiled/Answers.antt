@@ -4,16 +4,16 @@ use Rattle.hermes.proofs.Finished.{run_done, run_left, run_bad, run_fault, run_m
 use Rattle.hermes.proofs.source.run_compiled.Goals as goal
 
 pub unreachable-requires : goal.unreachable-requires
-unreachable-requires g c = run_bad _ _ _ _ _ c.requires c.in-BadCode.ensures.agrees
+unreachable-requires g c = run_bad _ _ _ _ _ c.requires.compiled c.in-BadCode.ensures.agrees
 
 pub returns-in-Done-clause-outcome : goal.returns-in-Done-clause-outcome
-returns-in-Done-clause-outcome g c = run_done _ _ _ _ _ c.requires c.in-Done.ensures.agrees
+returns-in-Done-clause-outcome g c = run_done _ _ _ _ _ c.requires.read c.requires.compiled c.in-Done.ensures.agrees
 
 pub returns-in-Left-clause-outcome : goal.returns-in-Left-clause-outcome
-returns-in-Left-clause-outcome g c = run_left _ _ _ _ _ _ c.requires c.in-Left.ensures.agrees
+returns-in-Left-clause-outcome g c = run_left _ _ _ _ _ _ c.requires.read c.requires.compiled c.in-Left.ensures.agrees
 
 pub returns-in-WriteFault-clause-outcome : goal.returns-in-WriteFault-clause-outcome
-returns-in-WriteFault-clause-outcome g c = run_fault _ _ _ _ _ c.requires c.in-WriteFault.ensures.agrees
+returns-in-WriteFault-clause-outcome g c = run_fault _ _ _ _ _ c.requires.read c.requires.compiled c.in-WriteFault.ensures.agrees
 
 pub returns-in-Memory-clause-outcome : goal.returns-in-Memory-clause-outcome
-returns-in-Memory-clause-outcome g c = inl (run_memory _ _ _ _ _ c.requires c.in-Memory.ensures.agrees)
+returns-in-Memory-clause-outcome g c = inl (run_memory _ _ _ _ _ c.requires.read c.requires.compiled c.in-Memory.ensures.agrees)
