@@ -1,8 +1,7 @@
 -- The first byte of a text: a quote begins the directive, and in strict code a call may stand in front.
-use Rattle.std.proofs.Common.{◌≡◌, ◌≢◌, ℕ, ◌+◌, ◌<◌, Bool, true, false, List, [], ◌∷◌, ◌++◌, length, take, slice_index, flat_map, codes, refl, ap, sym, ◌∙◌, subst, arith, Result, Ok, Err, ◌⊎◌, inl, inr}
+use Rattle.std.proofs.Common.{◌≡◌, ◌≢◌, ℕ, ◌<◌, Bool, true, false, List, [], ◌∷◌, ◌++◌, length, slice_index, flat_map, codes, refl, ap, sym, ◌∙◌, subst, arith, Ok, Err, ◌⊎◌, inl, inr}
 use Rattle.std.specs.List.{list_all}
-use denote.Bor.{Bor}
-use Rattle.hermes.specs.FirstTexts.{directive, argument_tokens, call_tokens, Spaced, is_argument, Spells, IsFirst, Begins, IsStuck}
+use Rattle.hermes.specs.FirstTexts.{directive, argument_tokens, call_tokens, Spaced, is_argument, Spells, IsFirst, IsStuck}
 use Rattle.hermes.specs.Reading.{RestToken, Rest, Whole, Moves, Halts, IsState, Stepped, IsRead, Reads}
 use Rattle.hermes.proofs.reading.Spacing.{spaced_cons, cons_spaced, spaced_nil, spaced_solid}
 use Rattle.hermes.proofs.reading.Tokens.{call_opens, opened}
@@ -12,7 +11,6 @@ use Rattle.hermes.specs.declared.first.language.FirstFault.{FirstFault}
 use Rattle.hermes.specs.declared.first.language.FirstFault.TheVariants as fault
 use Rattle.hermes.specs.declared.first.state.Next.TheVariants as next
 use Rattle.hermes.specs.declared.first.state.State.{State}
-use Rattle.hermes.specs.declared.first.state.State.TheVariants as state
 
 abbrev pub behind_quote : List ℕ
 behind_quote = codes "use strict" ++ 34 ∷ 59 ∷ []

@@ -1,9 +1,7 @@
 -- What follows once a state is reached: it can be completed, and where no step leads on the source is stuck.
 use Rattle.std.proofs.Common.{◌≡◌, ℕ, suc, ◌+◌, ◌-◌, ◌<◌, ◌≤◌, ◌≢◌, Bool, true, false, ◌==◌, List, [], ◌∷◌, ◌++◌, length, take, drop, flat_map, slice_index, slice_range, refl, ap, sym, ◌∙◌, subst, append_assoc, decimal, arith, Option, Some, None, Result, Ok, Err, IfOk, ◌⊎◌, inl, inr}
-use Rattle.std.specs.List.{list_all}
-use denote.Bor.{Bor}
 use Rattle.std.proofs.lemmas.List.{append-nil, take_more, drop_more, take-append-drop, take_all, take-take, drop-take}
-use Rattle.hermes.specs.FirstTexts.{directive, call_tokens, argument_tokens, Spaced, is_number, is_argument, IsFirst, Begins, IsStuck, weight}
+use Rattle.hermes.specs.FirstTexts.{call_tokens, argument_tokens, Spaced, is_number, IsFirst, Begins, IsStuck, weight}
 use Rattle.hermes.specs.Reading.{Step, step_tokens, operator_byte, steps_of, steps_with, later_steps, Follow, FollowSum, Rest, RestToken, RestText, RestNumber, Moves, Halts, IsState, Stepped, IsRead, is_between, Reads}
 use Rattle.hermes.proofs.reading.Spacing.{spaced_nil, spaced_end, begin_spaced}
 use Rattle.hermes.proofs.reading.SumSteps.{some_sum, sum_tokens_are}
