@@ -2,3 +2,12 @@ pub mod TextLemmas
 pub mod TokenLemmas
 pub mod Rows
 pub mod PlaceLemmas
+pub mod GrammarRows
+pub mod FunctionRows
+pub mod Ranks
+pub mod Depth
+pub mod Table
+pub mod Law
+pub mod Stack
+pub mod Work
+pub mod EventLaws

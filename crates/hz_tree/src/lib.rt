@@ -1,13 +1,31 @@
-// The types that the stages of the front end share: tokens, and the kinds of what is left out of the language.
+// The types that the stages of the front end share: tokens, the grammar's symbols, trees, and the reasons for which
+// a source is refused.
 //
-// The layer above relies on the definitions in `specs/`: `specs/Tokens.antt` says what the tokens of a
-// source are, in the terms of ECMA-262, clause 12. They speak of sources in UTF-8, byte by byte.
+// The layer above relies on the definitions in `specs/`: `specs/Tokens.antt` says what the tokens of a source are, in
+// the terms of ECMA-262, clause 12, and `specs/Grammar.antt` is the grammar as one table, which `specs/Reading.antt`
+// unfolds. They speak of sources in UTF-8, byte by byte.
 #![tactic(auto)]
 
+mod class;
 mod front;
+mod index;
+mod nonterminal;
+mod operator;
 mod outside;
+mod refusal;
+mod symbol;
 mod token;
+mod tree;
 
+pub use class::{Bracket, Bracketing, Class};
 pub use front::{Front, Part};
+pub use index::{FunctionInfo, FunctionInfos};
+pub use nonterminal::{Context, Nonterminal};
+pub use operator::{
+    AssignOperator, BinaryOperator, DeclarationWord, Iteration, UnaryOperator, UpdateOperator,
+};
 pub use outside::{BadKind, OutsideKind};
+pub use refusal::Refusal;
+pub use symbol::Symbol;
 pub use token::{Token, TokenKind};
+pub use tree::{Bound, FunctionKind, Rest, Slice, Tree};

@@ -1,3 +1,5 @@
+use std::fmt;
+
 /// Why no token begins at a place.
 #[derive(Clone, Copy, Debug, PartialEq, Eq)]
 pub enum BadKind {
@@ -55,4 +57,31 @@ pub enum OutsideKind {
 
     /// A character past ASCII that neither begins a name nor separates tokens.
     Character,
+}
+
+impl fmt::Display for OutsideKind {
+    ghost use Rattle.std.specs.Prelude.{Some};
+    ghost use Rattle.hz_tree.specs.Shown.{name_of_kind};
+
+    ghost output = { λ kind. Some (name_of_kind kind) };
+
+    fn fmt<W: fmt::Write>(&self, f: &mut fmt::Formatter<W>) -> fmt::Result {
+        match self {
+            OutsideKind::Class => write!(f, "Class"),
+            OutsideKind::Async => write!(f, "Async"),
+            OutsideKind::Module => write!(f, "Module"),
+            OutsideKind::With => write!(f, "With"),
+            OutsideKind::RegExp => write!(f, "RegExp"),
+            OutsideKind::BigInt => write!(f, "BigInt"),
+            OutsideKind::NumberForm => write!(f, "NumberForm"),
+            OutsideKind::TaggedTemplate => write!(f, "TaggedTemplate"),
+            OutsideKind::Pattern => write!(f, "Pattern"),
+            OutsideKind::DefaultParameter => write!(f, "DefaultParameter"),
+            OutsideKind::Super => write!(f, "Super"),
+            OutsideKind::PrivateName => write!(f, "PrivateName"),
+            OutsideKind::IdentifierEscape => write!(f, "IdentifierEscape"),
+            OutsideKind::HtmlComment => write!(f, "HtmlComment"),
+            OutsideKind::Character => write!(f, "Character"),
+        }
+    }
 }

@@ -1,0 +1,108 @@
+-- Rows of the grammar: the head of a `for` (ECMA-262, 14.7.4 and 14.7.5).
+use Rattle.std.specs.Prelude.{ℕ, Bool, true, false, ◌&&◌, ◌||◌, if◌then◌else◌, List, [], ◌∷◌, Option, Some, None}
+use Rattle.hz_tree.specs.declared.class.Class.{Class}
+use Rattle.hz_tree.specs.declared.class.Class.TheVariants as k
+use Rattle.hz_tree.specs.declared.outside.BadKind.TheVariants as bad
+use Rattle.hz_tree.specs.declared.outside.OutsideKind.TheVariants as outside
+use Rattle.hz_tree.specs.declared.nonterminal.Context.{Context}
+use Rattle.hz_tree.specs.declared.nonterminal.Nonterminal.TheVariants as n
+use Rattle.hz_tree.specs.declared.operator.DeclarationWord.{DeclarationWord}
+use Rattle.hz_tree.specs.declared.operator.DeclarationWord.TheVariants as word
+use Rattle.hz_tree.specs.declared.operator.Iteration.TheVariants as iteration
+use Rattle.hz_tree.specs.declared.symbol.Symbol.TheVariants.{Take, Read}
+use Rattle.hz_tree.specs.declared.tree.Bound.{Bound}
+use Rattle.hz_tree.specs.declared.tree.Tree.{Tree}
+use Rattle.hz_tree.specs.declared.tree.Tree.TheVariants as t
+use Rattle.hz_tree.specs.Look.{Look, is_async_word, begins_arrow}
+use Rattle.hz_tree.specs.Symbols.{AfterName, goes_over, initialised, AfterLeft, target_of, expression_of, Rests, goes, refuses, Row, without_in}
+use Rattle.hz_tree.specs.Places.{place}
+use Rattle.hz_tree.specs.GrammarExpressions.{listed}
+use Rattle.hz_tree.specs.GrammarOperators.{begins_unary, updated, raised, joined, conditional, assigned}
+
+abbrev pub for_open_row : Class → Row n.ForOpen
+for_open_row k.Await = refuses (bad.Outside outside.Async)
+for_open_row _ = goes (Take k.LeftParen ∷ []) (λ _. tt)
+
+-- ---- heads that declare
+
+abbrev pub declared_head : (at : ℕ) → DeclarationWord → Bound → AfterName → Tree
+declared_head at first bound (goes_over over values) = t.DeclaredHead at first bound over values
+declared_head at first bound (initialised value more test update) =
+    t.BindsHead at first (t.Bind bound.at bound.name value ∷ more) test update
+
+abbrev pub declared_head_row : (c : Context) → Class → Row (n.DeclaredHead c)
+declared_head_row c k.In = goes (Take k.In ∷ Read (n.Expr c) ∷ []) (λ (_, (values, _)). goes_over iteration.In values)
+declared_head_row c k.Of = goes (Take k.Of ∷ Read (n.Assign c) ∷ []) (λ (_, (values, _)). goes_over iteration.Of values)
+declared_head_row c _ =
+    goes (Read (n.Initial (without_in c)) ∷ Read (n.MoreBinds (without_in c)) ∷ Take k.Semicolon ∷ Read (n.OptionalExpr c)
+        ∷ Take k.Semicolon ∷ Read (n.OptionalExpr c) ∷ [])
+        (λ (value, (more, (_, (test, (_, (update, _)))))). initialised value more test update)
+
+-- ---- heads that begin with an expression
+
+-- The rest of an expression whose left-hand side was read, built as the rows of expressions build it.
+abbrev pub finished : Tree → Rests → Tree
+finished left r =
+    let operand = raised (updated left r.postfix) r.power in
+    let binary = joined (joined operand r.operators) r.logical in
+    listed (assigned (conditional binary r.cond) r.assign) r.comma
+
+abbrev pub left_head : Tree → AfterLeft → Tree
+left_head left (target_of over values) = t.LeftHead (place left) left over values
+left_head left (expression_of rests test update) = t.ExprHead (place left) (Some (finished left rests)) test update
+
+-- The expression goes on behind its left-hand side, where neither `in` nor `of` stands there.
+abbrev pub left_head_row : (c : Context) → Class → Row (n.LeftHead c)
+left_head_row c k.In = goes (Take k.In ∷ Read (n.Expr c) ∷ []) (λ (_, (values, _)). target_of iteration.In values)
+left_head_row c k.Of = goes (Take k.Of ∷ Read (n.Assign c) ∷ []) (λ (_, (values, _)). target_of iteration.Of values)
+left_head_row c _ =
+    goes (Read n.PostfixRest ∷ Read (n.PowerRest (without_in c)) ∷ Read (n.Operators 3 (without_in c)) ∷ Read (n.Logical (without_in c))
+        ∷ Read (n.CondRest (without_in c)) ∷ Read (n.AssignRest (without_in c)) ∷ Read (n.ExprRest (without_in c))
+        ∷ Take k.Semicolon ∷ Read (n.OptionalExpr c) ∷ Take k.Semicolon ∷ Read (n.OptionalExpr c) ∷ [])
+        (λ (postfix, (power, (operators, (logical, (cond, (assign, (comma, (_, (test, (_, (update, _))))))))))).
+            expression_of
+                (record {
+                  postfix = postfix; power = power; operators = operators; logical = logical; cond = cond;
+                  assign = assign; comma = comma
+                })
+                test update)
+
+abbrev pub is_of : Class → Bool
+is_of k.Of = true
+is_of _ = false
+
+abbrev pub is_yield : Class → Bool
+is_yield k.Yield = true
+is_yield _ = false
+
+abbrev pub is_no_left : (c : Context) → Look → Bool
+is_no_left c l = begins_unary l.one || (begins_arrow l || (is_yield l.one && c.yields))
+
+abbrev pub expr_head_row : (c : Context) → Look → Row (n.Head c)
+expr_head_row c l =
+    if is_async_word l.one && is_of l.two then refuses (bad.Outside outside.Async)
+    else (if is_no_left c l then
+        goes (Read (n.Expr (without_in c)) ∷ Take k.Semicolon ∷ Read (n.OptionalExpr c) ∷ Take k.Semicolon ∷ Read (n.OptionalExpr c) ∷ [])
+            (λ (first, (_, (test, (_, (update, _))))). t.ExprHead (place first) (Some first) test update)
+    else goes (Read (n.Left c) ∷ Read (n.LeftHead c) ∷ []) (λ (left, (more, _)). left_head left more))
+
+abbrev pub head_by : (c : Context) → Look → Class → Row (n.Head c)
+head_by c l k.Var =
+    goes (Take k.Var ∷ Read n.Bound ∷ Read (n.DeclaredHead c) ∷ []) (λ (first, (bound, (more, _))). declared_head first.token.at word.Var bound more)
+head_by c l k.Let =
+    goes (Take k.Let ∷ Read n.Bound ∷ Read (n.DeclaredHead c) ∷ []) (λ (first, (bound, (more, _))). declared_head first.token.at word.Let bound more)
+head_by c l k.Const =
+    goes (Take k.Const ∷ Read n.Bound ∷ Read (n.DeclaredHead c) ∷ []) (λ (first, (bound, (more, _))). declared_head first.token.at word.Const bound more)
+head_by c l k.Semicolon =
+    goes (Take k.Semicolon ∷ Read (n.OptionalExpr c) ∷ Take k.Semicolon ∷ Read (n.OptionalExpr c) ∷ [])
+        (λ (first, (test, (_, (update, _)))). t.ExprHead first.token.at None test update)
+head_by c l _ = expr_head_row c l
+
+abbrev pub head_row : (c : Context) → Look → Row (n.Head c)
+head_row c l = head_by c l l.one
+
+-- before a `;` or the `)` of the head
+abbrev pub optional_expr_row : (c : Context) → Class → Row (n.OptionalExpr c)
+optional_expr_row c k.Semicolon = goes [] (λ _. None)
+optional_expr_row c k.RightParen = goes [] (λ _. None)
+optional_expr_row c _ = goes (Read (n.Expr c) ∷ []) (λ (value, _). Some value)

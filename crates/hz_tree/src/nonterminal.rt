@@ -1,0 +1,127 @@
+/// The parameters of a rule, ECMA-262's \[Return\], \[Yield\] and \[In\] (5.1.5).
+#[derive(Clone, Copy, Debug, PartialEq, Eq)]
+pub struct Context {
+    /// `return` is a statement: the innermost function is not the script.
+    pub returns: bool,
+
+    /// `yield` is an operator: the innermost function is a generator.
+    pub yields: bool,
+
+    /// `in` is no operator: this is the head of a `for`, outside brackets.
+    pub no_in: bool,
+}
+
+/// The symbols that the grammar defines. A list is a rule of its own, and so is what may follow a common beginning.
+#[derive(Clone, Copy, Debug, PartialEq, Eq)]
+pub enum Nonterminal {
+    Script,
+
+    // Statements.
+    Items(Context),
+    Item(Context),
+    Statement(Context),
+    Block(Context),
+    Binds(Context),
+    Bind(Context),
+    MoreBinds(Context),
+
+    /// `= value`, or nothing.
+    Initial(Context),
+
+    /// A name that is bound.
+    Bound,
+    Semi,
+
+    /// The semicolon behind a do-while, which may always be missing.
+    LooseSemi,
+    Else(Context),
+
+    /// The label of a `break` or `continue`.
+    Label,
+    ReturnValue(Context),
+    ThrowValue(Context),
+
+    /// The clauses of a switch. The flag tells that a `default` came before.
+    Clauses(Context, bool),
+
+    /// What follows the block of a `try`.
+    Handlers(Context),
+    CatchClause(Context),
+    CatchName,
+    Finally(Context),
+
+    // The head of a `for`.
+    ForOpen,
+    Head(Context),
+
+    /// What follows `let name` in a head.
+    DeclaredHead(Context),
+
+    /// What follows a left-hand side in a head.
+    LeftHead(Context),
+    OptionalExpr(Context),
+
+    // Expressions.
+    Expr(Context),
+    ExprRest(Context),
+    Assign(Context),
+    AssignRest(Context),
+    ArrowSign,
+    ArrowBody(Context),
+    YieldValue(Context),
+    CondRest(Context),
+
+    // Operators.
+    /// What follows the first operand of `??`, `||` or `&&`.
+    Logical(Context),
+    Coalesce(Context),
+
+    /// Operators that bind at least as tightly as the level says, each with its right operand.
+    Operators(u8, Context),
+    Power(Context),
+    PowerRest(Context),
+    Unary(Context),
+    PostfixRest,
+
+    // Left-hand sides and primary expressions.
+    Left(Context),
+    Tails(Context),
+
+    /// What follows `?.`.
+    OptionalTail(Context),
+    Word,
+    New(Context),
+    Callee(Context),
+    Members(Context),
+    NewArgs(Context),
+    Args(Context),
+    Arguments(Context),
+    MoreArguments(Context),
+    Argument(Context),
+    Primary(Context),
+    TemplateRest(Context),
+    Elements(Context),
+    MoreElements(Context),
+
+    // Object literals.
+    Props(Context),
+    MoreProps(Context),
+    Prop(Context),
+
+    /// What follows a name that is a whole property.
+    ShorthandEnd,
+
+    /// What follows the key of a property.
+    KeyRest(Context),
+    Key(Context),
+
+    // Functions.
+    OwnName,
+    Params,
+    Parameters,
+    MoreParameters,
+    ParameterEnd,
+
+    /// The body of a generator, or of another function.
+    Body(bool),
+}

@@ -1,0 +1,39 @@
+use std::fmt;
+
+use crate::outside::OutsideKind;
+
+/// Why a source is refused.
+#[derive(Clone, Copy, Debug, PartialEq, Eq)]
+pub enum Refusal {
+    /// It has more than 16,777,215 bytes.
+    TooLong,
+
+    /// At this place, counted in bytes, no well-formed UTF-8 sequence stands.
+    NotUtf8(usize),
+
+    /// The grammar is stuck at the token at this place.
+    Syntax(usize),
+
+    /// A part of the language that this compiler leaves out stands at this place.
+    Outside(OutsideKind, usize),
+
+    /// It does not say that it is strict code.
+    Sloppy,
+}
+
+impl fmt::Display for Refusal {
+    ghost use Rattle.std.specs.Prelude.{Some};
+    ghost use Rattle.hz_tree.specs.Shown.{text_of_refusal};
+
+    ghost output = { λ refusal. Some (text_of_refusal refusal) };
+
+    fn fmt<W: fmt::Write>(&self, f: &mut fmt::Formatter<W>) -> fmt::Result {
+        match self {
+            Refusal::TooLong => write!(f, "TooLong"),
+            Refusal::NotUtf8(at) => write!(f, "NotUtf8 at {}", at),
+            Refusal::Syntax(at) => write!(f, "Syntax at {}", at),
+            Refusal::Outside(kind, at) => write!(f, "Outside({}) at {}", kind, at),
+            Refusal::Sloppy => write!(f, "Sloppy"),
+        }
+    }
+}
