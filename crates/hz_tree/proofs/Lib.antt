@@ -1,7 +1,6 @@
 pub mod TextLemmas
 pub mod TokenLemmas
 pub mod Rows
-pub mod PlaceLemmas
 pub mod GrammarRows
 pub mod FunctionRows
 pub mod Ranks
@@ -11,3 +10,5 @@ pub mod Law
 pub mod Stack
 pub mod Work
 pub mod EventLaws
+pub mod Said
+pub mod PlaceLemmas

@@ -1,0 +1,134 @@
+use crate::class::bracketing;
+use crate::mark::Mark;
+use hz_tree::{Bracket, Bracketing, Class};
+use hz_value::Memory;
+use std::alloc::Global;
+use std::marker::Model;
+
+/// The brackets that are open behind some tokens, and the marks of these tokens.
+#[derive(Drop)]
+pub struct Tally {
+    /// The innermost one last.
+    open: Vec<Bracket>,
+
+    marks: Vec<Mark>,
+
+    /// Whether the last token is a `)` that closed its `(`.
+    closed: bool,
+}
+
+impl Model for Tally {
+    ghost use Rattle.std.specs.Prelude.{reverse};
+    ghost use Rattle.hz_cursor.specs.Tally.{Tallied};
+
+    ghost Value = { Tallied };
+
+    ghost view = { λ t. record { closed = t.closed; opened = reverse t.open.items; marks = t.marks.items } };
+}
+
+impl Tally {
+    ghost use Rattle.std.specs.Prelude.{◌≡◌, [], false, OnOk};
+    ghost use Rattle.hz_cursor.specs.Tally.{followed, closed_before, with_bracket};
+
+    pub fn new(alloc: Global) -> Tally
+        ensures { result ≡ record { closed = false; opened = []; marks = [] } }
+    {
+        Tally {
+            open: Vec::new(alloc),
+            marks: Vec::new(alloc),
+            closed: false,
+        }
+    }
+
+    pub fn into_marks(self) -> Vec<Mark>
+        ensures { result.items ≡ self.marks }
+    {
+        let Tally {
+            open: _,
+            marks,
+            closed: _,
+        } = self;
+        marks
+    }
+
+    /// Goes past a token of the class.
+    pub fn follow(&mut self, class: Class) -> Result<(), Memory>
+        ensures { OnOk result (self.new ≡ followed class self.old) }
+    {
+        self.answer(matches!(class, Class::Arrow))?;
+        self.apply(bracketing(class))
+    }
+
+    /// Tells the `)` before a token whether that token is `=>`.
+    fn answer(&mut self, arrow: bool) -> Result<(), Memory>
+        ensures { OnOk result (self.new ≡ closed_before arrow self.old) }
+    {
+        if self.closed {
+            self.marks.push(Mark::Closes(arrow))?;
+            self.closed = false;
+        }
+        Ok(())
+    }
+
+    fn apply(&mut self, does: Bracketing) -> Result<(), Memory>
+        ensures { OnOk result (self.new ≡ with_bracket does self.old) }
+    {
+        self.closed = false;
+        match does {
+            Bracketing::Opens(bracket) => {
+                if is_round(bracket) {
+                    self.marks.push(Mark::Opens)?;
+                }
+                self.open.push(bracket)?;
+            }
+            Bracketing::Closes(bracket) => {
+                if is_innermost(&self.open, bracket) {
+                    let _ = self.open.pop();
+                    self.closed = is_round(bracket);
+                } else {
+                    drop_all(&mut self.open, &mut self.marks)?;
+                }
+            }
+            Bracketing::Reopens => {
+                if !is_innermost(&self.open, Bracket::Hole) {
+                    drop_all(&mut self.open, &mut self.marks)?;
+                }
+            }
+            Bracketing::Ends => drop_all(&mut self.open, &mut self.marks)?,
+            Bracketing::Keeps => {}
+        }
+        Ok(())
+    }
+}
+
+ghost use Rattle.std.specs.Prelude.{◌≡◌, ◌++◌, [], OnOk, reverse};
+ghost use Rattle.hz_cursor.specs.Marks.{dropped, innermost_is, is_round_bracket};
+
+fn is_round(bracket: Bracket) -> bool
+    ensures { result ≡ is_round_bracket bracket }
+{
+    matches!(bracket, Bracket::Round)
+}
+
+#[tactic(auto, unfolding(hz_tree::specs::Classes::same_bracket))]
+fn is_innermost(open: &Vec<Bracket>, bracket: Bracket) -> bool
+    ensures { result ≡ innermost_is bracket (reverse open.now.items) }
+{
+    match open.last() {
+        Some(innermost) => bracket == *innermost,
+        None => false,
+    }
+}
+
+/// Leaves all brackets open for good.
+fn drop_all(open: &mut Vec<Bracket>, marks: &mut Vec<Mark>) -> Result<(), Memory>
+    ensures marks { OnOk result (marks.new.items ≡ marks.old.items ++ dropped (reverse open.old.items)) }
+    ensures open { OnOk result (open.new.items ≡ []) }
+{
+    while let Some(bracket) = open.pop() {
+        if is_round(bracket) {
+            marks.push(Mark::Closes(false))?;
+        }
+    }
+    Ok(())
+}

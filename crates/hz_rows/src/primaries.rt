@@ -1,0 +1,272 @@
+//! Left-hand sides, calls, primary expressions and templates.
+
+ghost use Rattle.hz_tree.specs.Grammar.{step_of};
+ghost use Rattle.hz_tree.specs.GrammarPrimaries as row;
+ghost use Rattle.hz_rows.specs.Pushed.{Pushed};
+
+use crate::classes::{is_name, is_word};
+use crate::contexts::with_in;
+use crate::look::Look;
+use crate::stack::Stack;
+use crate::stop::{Stop, left_out, stuck};
+use hz_tree::Nonterminal::{
+    Args, Argument, Arguments, Assign, Body, Callee, Elements, Expr, Members, MoreArguments,
+    MoreElements, New, NewArgs, OptionalTail, OwnName, Params, Primary, Props, Tails, TemplateRest,
+    Word,
+};
+use hz_tree::Symbol::{Close, Open, Read, Take};
+use hz_tree::{BadKind, Class, Context, FunctionKind, OutsideKind};
+
+pub fn left_row(stack: &mut Stack, context: Context, one: Class) -> Result<(), Stop>
+    ensures { Pushed (step_of (row.left_row context one)) result stack.old stack.new }
+{
+    match one {
+        Class::New => stack.push(&[Read(New(context)), Read(Tails(context))]),
+        _ => stack.push(&[Read(Primary(context)), Read(Tails(context))]),
+    }
+}
+
+pub fn tails_row(stack: &mut Stack, context: Context, one: Class) -> Result<(), Stop>
+    ensures { Pushed (step_of (row.tails_row context one)) result stack.old stack.new }
+{
+    match one {
+        Class::Dot => stack.push(&[Take(Class::Dot), Read(Word), Read(Tails(context))]),
+        Class::LeftBracket => stack.push(&[
+            Take(Class::LeftBracket),
+            Read(Expr(with_in(context))),
+            Take(Class::RightBracket),
+            Read(Tails(context)),
+        ]),
+        Class::LeftParen => stack.push(&[Read(Args(context)), Read(Tails(context))]),
+        Class::OptionalDot => stack.push(&[
+            Take(Class::OptionalDot),
+            Read(OptionalTail(context)),
+            Read(Tails(context)),
+        ]),
+        Class::TemplateWhole | Class::TemplateHead => left_out(OutsideKind::TaggedTemplate),
+        _ => Ok(()),
+    }
+}
+
+pub fn optional_tail_row(stack: &mut Stack, context: Context, one: Class) -> Result<(), Stop>
+    ensures { Pushed (step_of (row.optional_tail_row context one)) result stack.old stack.new }
+{
+    match one {
+        Class::LeftBracket => stack.push(&[
+            Take(Class::LeftBracket),
+            Read(Expr(with_in(context))),
+            Take(Class::RightBracket),
+        ]),
+        Class::LeftParen => stack.push(&[Read(Args(context))]),
+        Class::TemplateWhole | Class::TemplateHead => left_out(OutsideKind::TaggedTemplate),
+        _ => stack.push(&[Read(Word)]),
+    }
+}
+
+pub fn word_row(stack: &mut Stack, look: Look) -> Result<(), Stop>
+    ensures { Pushed (step_of (row.word_row look)) result stack.old stack.new }
+{
+    if is_word(look.one) {
+        stack.push(&[Take(look.one)])
+    } else {
+        stuck(look)
+    }
+}
+
+pub fn new_row(stack: &mut Stack, context: Context, two: Class) -> Result<(), Stop>
+    ensures { Pushed (step_of (row.new_row context two)) result stack.old stack.new }
+{
+    match two {
+        Class::Dot => stack.push(&[Take(Class::New), Take(Class::Dot), Take(Class::Target)]),
+        _ => stack.push(&[
+            Take(Class::New),
+            Read(Callee(context)),
+            Read(Members(context)),
+            Read(NewArgs(context)),
+        ]),
+    }
+}
+
+pub fn callee_row(stack: &mut Stack, context: Context, one: Class) -> Result<(), Stop>
+    ensures { Pushed (step_of (row.callee_row context one)) result stack.old stack.new }
+{
+    match one {
+        Class::New => stack.push(&[Read(New(context))]),
+        _ => stack.push(&[Read(Primary(context))]),
+    }
+}
+
+pub fn members_row(stack: &mut Stack, context: Context, one: Class) -> Result<(), Stop>
+    ensures { Pushed (step_of (row.members_row context one)) result stack.old stack.new }
+{
+    match one {
+        Class::Dot => stack.push(&[Take(Class::Dot), Read(Word), Read(Members(context))]),
+        Class::LeftBracket => stack.push(&[
+            Take(Class::LeftBracket),
+            Read(Expr(with_in(context))),
+            Take(Class::RightBracket),
+            Read(Members(context)),
+        ]),
+        _ => Ok(()),
+    }
+}
+
+pub fn new_args_row(stack: &mut Stack, context: Context, one: Class) -> Result<(), Stop>
+    ensures { Pushed (step_of (row.new_args_row context one)) result stack.old stack.new }
+{
+    match one {
+        Class::LeftParen => stack.push(&[Read(Args(context))]),
+        Class::OptionalDot => Err(Stop::Refused(BadKind::Syntax)),
+        _ => Ok(()),
+    }
+}
+
+pub fn args_row(stack: &mut Stack, context: Context) -> Result<(), Stop>
+    ensures { Pushed (step_of (row.args_row context)) result stack.old stack.new }
+{
+    stack.push(&[
+        Take(Class::LeftParen),
+        Read(Arguments(with_in(context))),
+        Take(Class::RightParen),
+    ])
+}
+
+pub fn arguments_row(stack: &mut Stack, context: Context, one: Class) -> Result<(), Stop>
+    ensures { Pushed (step_of (row.arguments_row context one)) result stack.old stack.new }
+{
+    match one {
+        Class::RightParen => Ok(()),
+        _ => stack.push(&[Read(Argument(context)), Read(MoreArguments(context))]),
+    }
+}
+
+pub fn more_arguments_row(stack: &mut Stack, context: Context, one: Class) -> Result<(), Stop>
+    ensures { Pushed (step_of (row.more_arguments_row context one)) result stack.old stack.new }
+{
+    match one {
+        Class::Comma => stack.push(&[Take(Class::Comma), Read(Arguments(context))]),
+        _ => Ok(()),
+    }
+}
+
+pub fn argument_row(stack: &mut Stack, context: Context, one: Class) -> Result<(), Stop>
+    ensures { Pushed (step_of (row.argument_row context one)) result stack.old stack.new }
+{
+    match one {
+        Class::Ellipsis => stack.push(&[Take(Class::Ellipsis), Read(Assign(context))]),
+        _ => stack.push(&[Read(Assign(context))]),
+    }
+}
+
+/// A function expression, where `function` stands.
+fn function_expression_row(stack: &mut Stack, context: Context, two: Class) -> Result<(), Stop>
+    ensures { Pushed (step_of (row.function_expression_row context two)) result stack.old stack.new }
+{
+    match two {
+        Class::Star => stack.push(&[
+            Open(FunctionKind::Generator),
+            Take(Class::Function),
+            Take(Class::Star),
+            Read(OwnName),
+            Read(Params),
+            Read(Body(true)),
+            Close,
+        ]),
+        _ => stack.push(&[
+            Open(FunctionKind::Function),
+            Take(Class::Function),
+            Read(OwnName),
+            Read(Params),
+            Read(Body(false)),
+            Close,
+        ]),
+    }
+}
+
+/// A primary expression that is no async function.
+fn primary_by(stack: &mut Stack, context: Context, look: Look) -> Result<(), Stop>
+    ensures { Pushed (step_of (row.primary_by context look look.one)) result stack.old stack.new }
+{
+    match look.one {
+        Class::This
+        | Class::Null
+        | Class::True
+        | Class::False
+        | Class::Number
+        | Class::OctalNumber
+        | Class::Text
+        | Class::TemplateWhole => stack.push(&[Take(look.one)]),
+        Class::LeftParen => stack.push(&[
+            Take(Class::LeftParen),
+            Read(Expr(with_in(context))),
+            Take(Class::RightParen),
+        ]),
+        Class::TemplateHead => stack.push(&[
+            Take(Class::TemplateHead),
+            Read(Expr(with_in(context))),
+            Read(TemplateRest(with_in(context))),
+        ]),
+        Class::Function => function_expression_row(stack, context, look.two),
+        Class::LeftBracket => stack.push(&[
+            Take(Class::LeftBracket),
+            Read(Elements(with_in(context))),
+            Take(Class::RightBracket),
+        ]),
+        Class::LeftBrace => stack.push(&[
+            Take(Class::LeftBrace),
+            Read(Props(with_in(context))),
+            Take(Class::RightBrace),
+        ]),
+        Class::Slash | Class::SlashAssign => left_out(OutsideKind::RegExp),
+        one => {
+            if is_name(one) {
+                stack.push(&[Take(Class::Name)])
+            } else {
+                stuck(look)
+            }
+        }
+    }
+}
+
+pub fn primary_row(stack: &mut Stack, context: Context, look: Look) -> Result<(), Stop>
+    ensures { Pushed (step_of (row.primary_row context look)) result stack.old stack.new }
+{
+    if look.is_async() {
+        left_out(OutsideKind::Async)
+    } else {
+        primary_by(stack, context, look)
+    }
+}
+
+pub fn template_rest_row(stack: &mut Stack, context: Context, look: Look) -> Result<(), Stop>
+    ensures { Pushed (step_of (row.template_rest_row context look)) result stack.old stack.new }
+{
+    match look.one {
+        Class::TemplateMiddle => stack.push(&[
+            Take(Class::TemplateMiddle),
+            Read(Expr(context)),
+            Read(TemplateRest(context)),
+        ]),
+        Class::TemplateTail => stack.push(&[Take(Class::TemplateTail)]),
+        _ => stuck(look),
+    }
+}
+
+pub fn elements_row(stack: &mut Stack, context: Context, one: Class) -> Result<(), Stop>
+    ensures { Pushed (step_of (row.elements_row context one)) result stack.old stack.new }
+{
+    match one {
+        Class::RightBracket => Ok(()),
+        Class::Comma => stack.push(&[Take(Class::Comma), Read(Elements(context))]),
+        _ => stack.push(&[Read(Argument(context)), Read(MoreElements(context))]),
+    }
+}
+
+pub fn more_elements_row(stack: &mut Stack, context: Context, one: Class) -> Result<(), Stop>
+    ensures { Pushed (step_of (row.more_elements_row context one)) result stack.old stack.new }
+{
+    match one {
+        Class::Comma => stack.push(&[Take(Class::Comma), Read(Elements(context))]),
+        _ => Ok(()),
+    }
+}

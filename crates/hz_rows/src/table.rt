@@ -1,0 +1,100 @@
+ghost use Rattle.hz_tree.specs.Grammar.{step};
+ghost use Rattle.hz_rows.specs.Pushed.{Pushed};
+
+use crate::look::Look;
+use crate::stack::Stack;
+use crate::stop::Stop;
+use crate::{expressions, functions, heads, operators, primaries, properties, statements};
+use hz_tree::Nonterminal;
+
+/// Expands a nonterminal that was taken from the stack, where the next tokens look so: puts the right-hand side of its
+/// row onto the stack, or refuses with the row's cause and leaves the stack as it is. `Memory` comes only where there is
+/// a right-hand side, and what then lies on the stack is unspecified.
+pub fn expand(stack: &mut Stack, nonterminal: Nonterminal, look: Look) -> Result<(), Stop>
+    ensures { Pushed (step nonterminal look) result stack.old stack.new }
+{
+    match nonterminal {
+        Nonterminal::Script => statements::script_row(stack),
+        Nonterminal::Items(context) => statements::items_row(stack, context, look.one),
+        Nonterminal::Item(context) => statements::item_row(stack, context, look.one, look.two),
+        Nonterminal::Statement(context) => statements::statement_row(stack, context, look),
+        Nonterminal::Block(context) => statements::block_row(stack, context),
+        Nonterminal::Binds(context) => statements::binds_row(stack, context),
+        Nonterminal::Bind(context) => statements::bind_row(stack, context),
+        Nonterminal::MoreBinds(context) => statements::more_binds_row(stack, context, look.one),
+        Nonterminal::Initial(context) => statements::initial_row(stack, context, look.one),
+        Nonterminal::Bound => statements::bound_row(stack, look),
+        Nonterminal::Semi => statements::semi_row(stack, look),
+        Nonterminal::LooseSemi => statements::loose_semi_row(stack, look.one),
+        Nonterminal::Else(context) => statements::else_row(stack, context, look.one),
+        Nonterminal::Label => statements::label_row(stack, look),
+        Nonterminal::ReturnValue(context) => statements::return_value_row(stack, context, look),
+        Nonterminal::ThrowValue(context) => statements::throw_value_row(stack, context, look),
+        Nonterminal::Clauses(context, has_default) => statements::clauses_row(
+            stack,
+            context,
+            has_default,
+            look.one,
+        ),
+        Nonterminal::Handlers(context) => statements::handlers_row(stack, context, look),
+        Nonterminal::CatchClause(context) => statements::catch_clause_row(stack, context),
+        Nonterminal::CatchName => statements::catch_name_row(stack, look.one),
+        Nonterminal::Finally(context) => statements::finally_row(stack, context, look.one),
+        Nonterminal::ForOpen => heads::for_open_row(stack, look.one),
+        Nonterminal::Head(context) => heads::head_row(stack, context, look),
+        Nonterminal::DeclaredHead(context) => heads::declared_head_row(stack, context, look.one),
+        Nonterminal::LeftHead(context) => heads::left_head_row(stack, context, look.one),
+        Nonterminal::OptionalExpr(context) => heads::optional_expr_row(stack, context, look.one),
+        Nonterminal::Expr(context) => expressions::expr_row(stack, context),
+        Nonterminal::ExprRest(context) => expressions::expr_rest_row(stack, context, look.one),
+        Nonterminal::Assign(context) => expressions::assign_row(stack, context, look),
+        Nonterminal::AssignRest(context) => expressions::assign_rest_row(stack, context, look.one),
+        Nonterminal::ArrowSign => expressions::arrow_sign_row(stack, look),
+        Nonterminal::ArrowBody(context) => expressions::arrow_body_row(stack, context, look.one),
+        Nonterminal::YieldValue(context) => expressions::yield_value_row(stack, context, look),
+        Nonterminal::CondRest(context) => expressions::cond_rest_row(stack, context, look.one),
+        Nonterminal::Logical(context) => operators::logical_row(stack, context, look.one),
+        Nonterminal::Coalesce(context) => operators::coalesce_row(stack, context, look.one),
+        Nonterminal::Operators(level, context) => operators::operators_row(
+            stack, level, context, look.one,
+        ),
+        Nonterminal::Power(context) => operators::power_row(stack, context, look.one),
+        Nonterminal::PowerRest(context) => operators::power_rest_row(stack, context, look.one),
+        Nonterminal::Unary(context) => operators::unary_row(stack, context, look.one),
+        Nonterminal::PostfixRest => operators::postfix_rest_row(stack, look),
+        Nonterminal::Left(context) => primaries::left_row(stack, context, look.one),
+        Nonterminal::Tails(context) => primaries::tails_row(stack, context, look.one),
+        Nonterminal::OptionalTail(context) => primaries::optional_tail_row(
+            stack, context, look.one,
+        ),
+        Nonterminal::Word => primaries::word_row(stack, look),
+        Nonterminal::New(context) => primaries::new_row(stack, context, look.two),
+        Nonterminal::Callee(context) => primaries::callee_row(stack, context, look.one),
+        Nonterminal::Members(context) => primaries::members_row(stack, context, look.one),
+        Nonterminal::NewArgs(context) => primaries::new_args_row(stack, context, look.one),
+        Nonterminal::Args(context) => primaries::args_row(stack, context),
+        Nonterminal::Arguments(context) => primaries::arguments_row(stack, context, look.one),
+        Nonterminal::MoreArguments(context) => primaries::more_arguments_row(
+            stack, context, look.one,
+        ),
+        Nonterminal::Argument(context) => primaries::argument_row(stack, context, look.one),
+        Nonterminal::Primary(context) => primaries::primary_row(stack, context, look),
+        Nonterminal::TemplateRest(context) => primaries::template_rest_row(stack, context, look),
+        Nonterminal::Elements(context) => primaries::elements_row(stack, context, look.one),
+        Nonterminal::MoreElements(context) => primaries::more_elements_row(
+            stack, context, look.one,
+        ),
+        Nonterminal::Props(context) => properties::props_row(stack, context, look.one),
+        Nonterminal::MoreProps(context) => properties::more_props_row(stack, context, look.one),
+        Nonterminal::Prop(context) => properties::prop_row(stack, context, look),
+        Nonterminal::ShorthandEnd => properties::shorthand_end_row(stack, look.one),
+        Nonterminal::KeyRest(context) => properties::key_rest_row(stack, context, look),
+        Nonterminal::Key(context) => properties::key_row(stack, context, look),
+        Nonterminal::OwnName => functions::own_name_row(stack, look.one),
+        Nonterminal::Params => functions::params_row(stack),
+        Nonterminal::Parameters => functions::parameters_row(stack, look.one),
+        Nonterminal::MoreParameters => functions::more_parameters_row(stack, look.one),
+        Nonterminal::ParameterEnd => functions::parameter_end_row(stack, look.one),
+        Nonterminal::Body(generator) => functions::body_row(stack, generator),
+    }
+}
