@@ -1,0 +1,5 @@
+pub mod Readings
+pub mod TextRows
+pub mod NoText
+pub mod PrologueLaw
+pub mod ExtentsLaw

@@ -1,0 +1,2 @@
+pub mod Prologue
+pub mod Extents

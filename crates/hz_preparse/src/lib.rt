@@ -1,0 +1,10 @@
+// The reader of a source without trees.
+#![tactic(auto)]
+
+ghost use Rattle.std.specs.Prelude.{◌≡◌};
+
+pub fn echo(x: usize) -> usize
+    ensures { result ≡ x }
+{
+    x
+}
