@@ -1,5 +1,5 @@
 -- The bound on the depth is never met, and the reading is what the table says without a bound.
-use Rattle.std.proofs.Common.{◌≡◌, ℕ, zero, suc, ◌+◌, ◌*◌, ◌<◌, ◌≤◌, Bool, true, false, not, ◌&&◌, ◌||◌, cond, if◌then◌else◌, nat_lt, List, [], ◌∷◌, length, refl, ap, sym, ◌∙◌, subst, arith}
+use Rattle.std.proofs.Common.{◌≡◌, ℕ, zero, suc, ◌+◌, ◌*◌, ◌<◌, ◌≤◌, Bool, true, false, not, ◌&&◌, ◌||◌, if◌then◌else◌, nat_lt, List, [], ◌∷◌, length, refl, ap, sym, ◌∙◌, subst, arith}
 use Rattle.std.proofs.lemmas.Bool.Decides.{nat_tests}
 use Rattle.hz_tree.specs.declared.class.Class.{Class}
 use Rattle.hz_tree.specs.declared.nonterminal.Nonterminal.{Nonterminal}
@@ -7,9 +7,9 @@ use Rattle.hz_tree.specs.declared.symbol.Symbol.{Symbol}
 use Rattle.hz_tree.specs.declared.symbol.Symbol.TheVariants as s
 use Rattle.hz_tree.specs.Classes.{fits}
 use Rattle.hz_tree.specs.Look.{Terminal, Look, look, stuck}
-use Rattle.hz_tree.specs.Symbols.{Part, Parts, RowOf, goes, refuses}
+use Rattle.hz_tree.specs.Symbols.{RowOf, goes, refuses}
 use Rattle.hz_tree.specs.Grammar.{step_of}
-use Rattle.hz_tree.specs.Reading.{Reading, Got, Stuck, Deeper, and_then, takes, Reader, Table, read_one, read_all, by_row, reads_to, reads_by, enough}
+use Rattle.hz_tree.specs.Reading.{Reading, Got, Stuck, Deeper, and_then, takes, Reader, Table, read_one, read_all, by_row, reads_to}
 use Rattle.hz_tree.proofs.Ranks.{rank, eats, eats_symbol, eats_all, falls, is_fine, rank_small}
 
 -- all rows of a table let ranks fall
@@ -67,7 +67,7 @@ pub all_within : {Value : Nonterminal → Type 0} (reads : Reader Value) → ((m
 all_within reads shorter [] ts = omega arith
 all_within reads shorter (symbol ∷ more) ts =
     within_then (eats_symbol symbol) (eats_all more) (length ts) (read_one reads symbol ts) _ (one_within reads shorter symbol ts)
-        (λ v rest. within_map (λ vs. (v, vs)) (eats_all more) (length rest) (read_all reads more rest) (all_within reads shorter more rest))
+    (λ v rest. within_map (λ vs. (v, vs)) (eats_all more) (length rest) (read_all reads more rest) (all_within reads shorter more rest))
 
 loosen : {A : Type 0} (a b : Bool) (m : ℕ) (r : Reading A) → (not a || b) ≡ true → Within b m r → Within a m r
 loosen a b m (Stuck cause ts) h w = tt
@@ -88,8 +88,8 @@ row_within : {Value : Nonterminal → Type 0} (reads : Reader Value) → ((m : N
     → (m : Nonterminal) (r : RowOf Value m) → is_fine m (step_of r) ≡ true → (ts : List Terminal) → Within (eats m) (length ts) (by_row reads m r ts)
 row_within reads shorter m (goes right make) fine ts =
     within_map make (eats m) (length ts) (read_all reads right ts)
-        (loosen (eats m) (eats_all right) (length ts) (read_all reads right ts)
-            (and_right (falls (rank m) right) (not (eats m) || eats_all right) fine) (all_within reads shorter right ts))
+    (loosen (eats m) (eats_all right) (length ts) (read_all reads right ts)
+    (and_right (falls (rank m) right) (not (eats m) || eats_all right) fine) (all_within reads shorter right ts))
 row_within reads shorter m (refuses cause) fine ts = tt
 
 pub shrinks : {Value : Nonterminal → Type 0} (table : Table Value) → Fine table
@@ -140,7 +140,7 @@ module _ {Value : Nonterminal → Type 0} (reads : Reader Value) (d : ℕ)
   free [] us h = tt
   free (symbol ∷ more) us h =
       ends_then (eats_symbol symbol) (length us) (read_one reads symbol us) _ (one_within reads shorter symbol us) (free_one symbol us h)
-          (λ v rest w. ends_map (λ vs. (v, vs)) (read_all reads more rest) (free more rest (omega arith)))
+      (λ v rest w. ends_map (λ vs. (v, vs)) (read_all reads more rest) (free more rest (omega arith)))
 
   led_rest : (limit : ℕ) (e : Bool) (more : List Symbol) (us rest : List Terminal) → (e || falls limit more) ≡ true
       → 16 * length us + limit ≤ d → count e + length rest ≤ length us
@@ -152,13 +152,13 @@ module _ {Value : Nonterminal → Type 0} (reads : Reader Value) (d : ℕ)
   led limit [] us f h = tt
   led limit (s.Take wanted ∷ more) us f h =
       ends_then true (length us) (takes wanted us) _ (takes_within wanted us) (takes_ends wanted us)
-          (λ v rest w. ends_map (λ vs. (v, vs)) (read_all reads more rest) (free more rest (omega arith)))
+      (λ v rest w. ends_map (λ vs. (v, vs)) (read_all reads more rest) (free more rest (omega arith)))
   led limit (s.Read m ∷ more) us f h =
       let below : rank m < limit = grind (arith, nat_tests, and_left (nat_lt (rank m) limit) (eats m || falls limit more) f) in
       ends_then (eats m) (length us) (reads m us) _ (shorter m us) (reached m us (omega arith))
-          (λ v rest w. ends_map (λ vs. (v, vs)) (read_all reads more rest)
-              (led_rest limit (eats m) more us rest (and_right (nat_lt (rank m) limit) (eats m || falls limit more) f) h w
-                  (led limit more rest)))
+      (λ v rest w. ends_map (λ vs. (v, vs)) (read_all reads more rest)
+      (led_rest limit (eats m) more us rest (and_right (nat_lt (rank m) limit) (eats m || falls limit more) f) h w
+      (led limit more rest)))
   led limit (s.Open kind ∷ more) us f h = ends_map _ (read_all reads more us) (led limit more us f h)
   led limit (s.Count ∷ more) us f h = ends_map _ (read_all reads more us) (led limit more us f h)
   led limit (s.Close ∷ more) us f h = ends_map _ (read_all reads more us) (led limit more us f h)
@@ -196,11 +196,11 @@ module _ {Value : Nonterminal → Type 0} (reads reads' : Reader Value)
   agree_all [] us h = refl
   agree_all (symbol ∷ more) us h =
       same_then (read_one reads symbol us) (read_one reads' symbol us)
-          (λ v rest. and_then (read_all reads more rest) (λ vs end. Got (v, vs) end))
-          (λ v rest. and_then (read_all reads' more rest) (λ vs end. Got (v, vs) end))
-          (agree_one symbol us (ends_first (read_one reads symbol us) _ h))
-          (λ v rest ends. ap (λ y. and_then y (λ vs end. Got (v, vs) end)) (agree_all more rest (ends_first (read_all reads more rest) _ ends)))
-          h
+      (λ v rest. and_then (read_all reads more rest) (λ vs end. Got (v, vs) end))
+      (λ v rest. and_then (read_all reads' more rest) (λ vs end. Got (v, vs) end))
+      (agree_one symbol us (ends_first (read_one reads symbol us) _ h))
+      (λ v rest ends. ap (λ y. and_then y (λ vs end. Got (v, vs) end)) (agree_all more rest (ends_first (read_all reads more rest) _ ends)))
+      h
 
   agree_row : (m : Nonterminal) (r : RowOf Value m) (ts : List Terminal) → Ends (by_row reads m r ts) → by_row reads' m r ts ≡ by_row reads m r ts
   agree_row m (goes right make) ts h = ap (λ y. and_then y (λ vs rest. Got (make vs) rest)) (agree_all right ts (ends_first (read_all reads right ts) _ h))

@@ -1,5 +1,5 @@
 -- The events of a tree of each kind are those of the trees in it.
-use Rattle.std.proofs.Common.{◌≡◌, ℕ, Bool, List, [], ◌∷◌, ◌++◌, map, Option, Some, None, rules}
+use Rattle.std.proofs.Common.{◌≡◌, ℕ, Bool, List, [], ◌++◌, map, Option, Some, None, rules}
 use Rattle.hz_tree.specs.declared.operator.AssignOperator.{AssignOperator}
 use Rattle.hz_tree.specs.declared.operator.BinaryOperator.{BinaryOperator}
 use Rattle.hz_tree.specs.declared.operator.DeclarationWord.{DeclarationWord}
@@ -12,8 +12,7 @@ use Rattle.hz_tree.specs.declared.tree.FunctionKind.{FunctionKind}
 use Rattle.hz_tree.specs.declared.tree.Tree.{Tree, the_lemmas}
 use Rattle.hz_tree.specs.declared.tree.Tree.TheVariants as t
 use Rattle.hz_tree.specs.Text.{Text}
-use Rattle.hz_tree.specs.Reading.{Event, Opened, Closed}
-use Rattle.hz_tree.specs.Events.{said_all, said_option, said_parameters, said_function, events_of}
+use Rattle.hz_tree.specs.Events.{said_all, said_option, said_function, events_of}
 
 abbrev pub map_option : {A B : Type 0} → (A → B) → Option A → Option B
 map_option f None = None
@@ -287,4 +286,4 @@ pub said_ComputedKey : (at : ℕ) (key : Tree) → events_of (t.ComputedKey at k
 unfolding events_of
 said_ComputedKey at key = search (rules, the_lemmas)
 
-ruleset said_laws = (said_Script, said_Function, said_Inner, said_Body, said_Declaration, said_Lexical, said_Var, said_Bind, said_Block, said_Empty, said_Debugger, said_If, said_DoWhile, said_While, said_For, said_Continue, said_Break, said_Return, said_Throw, said_Switch, said_Case, said_Default, said_Try, said_Catch, said_Label, said_Expression, said_DeclaredHead, said_BindsHead, said_LeftHead, said_ExprHead, said_Comma, said_Assign, said_Yield, said_Cond, said_Binary, said_Unary, said_Postfix, said_Left, said_NewTarget, said_New, said_Dot, said_Index, said_Args, said_Optional, said_Spread, said_This, said_Identifier, said_Null, said_Truth, said_Number, said_OctalNumber, said_Text, said_Parentheses, said_Template, said_Array, said_Hole, said_Object, said_Shorthand, said_Property, said_Method, said_Getter, said_Setter, said_WordKey, said_TextKey, said_NumberKey, said_OctalKey, said_ComputedKey)
+pub ruleset said_laws = (said_Script, said_Function, said_Inner, said_Body, said_Declaration, said_Lexical, said_Var, said_Bind, said_Block, said_Empty, said_Debugger, said_If, said_DoWhile, said_While, said_For, said_Continue, said_Break, said_Return, said_Throw, said_Switch, said_Case, said_Default, said_Try, said_Catch, said_Label, said_Expression, said_DeclaredHead, said_BindsHead, said_LeftHead, said_ExprHead, said_Comma, said_Assign, said_Yield, said_Cond, said_Binary, said_Unary, said_Postfix, said_Left, said_NewTarget, said_New, said_Dot, said_Index, said_Args, said_Optional, said_Spread, said_This, said_Identifier, said_Null, said_Truth, said_Number, said_OctalNumber, said_Text, said_Parentheses, said_Template, said_Array, said_Hole, said_Object, said_Shorthand, said_Property, said_Method, said_Getter, said_Setter, said_WordKey, said_TextKey, said_NumberKey, said_OctalKey, said_ComputedKey)

@@ -1,9 +1,9 @@
 -- What the grammar makes of short sources, computed: none where it reads them, or else the refusal.
-use Rattle.std.proofs.Common.{◌≡◌, ℕ, List, [], ◌∷◌, map, codes, true, false, Option, Some, None, refl}
+use Rattle.std.proofs.Common.{◌≡◌, ℕ, List, [], ◌∷◌, map, codes, true, Option, Some, None, refl}
 use Rattle.hz_tree.specs.declared.outside.OutsideKind.TheVariants as outside
 use Rattle.hz_tree.specs.declared.nonterminal.Nonterminal.TheVariants as n
 use Rattle.hz_tree.specs.declared.refusal.Refusal.{Refusal}
-use Rattle.hz_tree.specs.declared.refusal.Refusal.TheVariants.{Syntax, Outside, Sloppy}
+use Rattle.hz_tree.specs.declared.refusal.Refusal.TheVariants.{Syntax, Outside}
 use Rattle.hz_tree.specs.Text.{run}
 use Rattle.hz_tree.specs.Characters.{code_point, char_len, is_white_space, is_line_terminator, starts_name, continues_name}
 use Rattle.hz_tree.specs.Spaces.{line_part, line_comment, block_part, block_comment, blank, space_part, gap}

@@ -1,13 +1,13 @@
 -- The reading without its bound on the depth: what the table's row for the next tokens says.
-use Rattle.std.proofs.Common.{◌≡◌, ℕ, zero, suc, ◌+◌, ◌*◌, ◌<◌, ◌≤◌, Bool, true, false, List, [], ◌∷◌, length, refl, ap, sym, ◌∙◌, arith}
+use Rattle.std.proofs.Common.{◌≡◌, ℕ, ◌+◌, ◌≤◌, Bool, List, [], ◌∷◌, length, refl, ap, sym, ◌∙◌, arith}
 use Rattle.hz_tree.specs.declared.nonterminal.Nonterminal.{Nonterminal}
 use Rattle.hz_tree.specs.declared.symbol.Symbol.{Symbol}
 use Rattle.hz_tree.specs.declared.symbol.Symbol.TheVariants as s
 use Rattle.hz_tree.specs.Look.{Terminal, look}
-use Rattle.hz_tree.specs.Symbols.{Part, Parts, RowOf, goes, refuses, Value}
+use Rattle.hz_tree.specs.Symbols.{RowOf, goes, refuses}
 use Rattle.hz_tree.specs.Grammar.{row, step_of}
 use Rattle.hz_tree.specs.Reading.{Reading, Got, Stuck, Deeper, and_then, Reader, Table, read_one, read_all, by_row, reads_to, reads_by, enough, reads, telling, event_row, tells}
-use Rattle.hz_tree.proofs.Ranks.{rank, eats, eats_symbol, eats_all, is_fine, rank_small}
+use Rattle.hz_tree.proofs.Ranks.{eats, eats_symbol, is_fine, rank_small}
 use Rattle.hz_tree.proofs.Depth.{Fine, count, Within, one_within, shrinks, Ends, reaches, agrees, same_depth}
 use Rattle.hz_tree.proofs.Table.{rows_fine}
 
@@ -32,10 +32,10 @@ module _ {Value : Nonterminal → Type 0} (reads reads' : Reader Value) (bound :
   same_all [] us h = refl
   same_all (symbol ∷ more) us h =
       same_within (eats_symbol symbol) (length us) (read_one reads symbol us) (read_one reads' symbol us)
-          (λ v rest. and_then (read_all reads more rest) (λ vs end. Got (v, vs) end))
-          (λ v rest. and_then (read_all reads' more rest) (λ vs end. Got (v, vs) end))
-          (same_one symbol us h) (one_within reads shorter symbol us)
-          (λ v rest w. ap (λ y. and_then y (λ vs end. Got (v, vs) end)) (same_all more rest (omega arith)))
+      (λ v rest. and_then (read_all reads more rest) (λ vs end. Got (v, vs) end))
+      (λ v rest. and_then (read_all reads' more rest) (λ vs end. Got (v, vs) end))
+      (same_one symbol us h) (one_within reads shorter symbol us)
+      (λ v rest w. ap (λ y. and_then y (λ vs end. Got (v, vs) end)) (same_all more rest (omega arith)))
 
   same_row : (m : Nonterminal) (r : RowOf Value m) (us : List Terminal) → length us ≤ bound → by_row reads m r us ≡ by_row reads' m r us
   same_row m (goes right make) us h = ap (λ y. and_then y (λ vs rest. Got (make vs) rest)) (same_all right us h)
@@ -51,8 +51,8 @@ unfolding reads_by reads_to
 by_law table fine m ts =
     sym (agrees table (enough ts) m ts (by_ends table fine m ts))
     ∙ same_row (reads_to table (enough ts)) (reads_by table) (length ts) (shrinks table fine (enough ts))
-        (λ n us h. same_depth table (enough ts) (enough us) n us (reaches table fine (enough ts) n us (omega (arith, rank_small n))) (by_ends table fine n us))
-        m (table m (look ts)) ts (omega arith)
+    (λ n us h. same_depth table (enough ts) (enough us) n us (reaches table fine (enough ts) n us (omega (arith, rank_small n))) (by_ends table fine n us))
+    m (table m (look ts)) ts (omega arith)
 
 pub by_shorter : {Value : Nonterminal → Type 0} (table : Table Value) → Fine table → (m : Nonterminal) (ts : List Terminal) → Within (eats m) (length ts) (reads_by table m ts)
 unfolding reads_by

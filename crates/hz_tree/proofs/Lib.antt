@@ -12,3 +12,11 @@ pub mod Work
 pub mod EventLaws
 pub mod Said
 pub mod PlaceLemmas
+pub mod SaidMade
+pub mod SaidStatements
+pub mod SaidOperators
+pub mod SaidExpressions
+pub mod SaidPrimaries
+pub mod SaidRows
+pub mod Tied
+pub mod Answers

@@ -1,5 +1,5 @@
 -- The events of a reading are those of its tree: row by row, what a row makes says what its parts say.
-use Rattle.std.proofs.Common.{◌≡◌, ℕ, zero, suc, Bool, true, false, List, [], ◌∷◌, ◌++◌, map, Option, Some, None, refl, ap, sym, ◌∙◌, append_assoc, append-nil}
+use Rattle.std.proofs.Common.{◌≡◌, ℕ, zero, suc, Bool, true, false, if◌then◌else◌, List, [], ◌∷◌, ◌++◌, map, Option, Some, None, refl, ap, sym, ◌∙◌}
 use Rattle.hz_tree.specs.declared.class.Class.{Class}
 use Rattle.hz_tree.specs.declared.nonterminal.Nonterminal.{Nonterminal}
 use Rattle.hz_tree.specs.declared.nonterminal.Nonterminal.TheVariants as n
@@ -9,7 +9,7 @@ use Rattle.hz_tree.specs.declared.symbol.Symbol.{Symbol}
 use Rattle.hz_tree.specs.declared.symbol.Symbol.TheVariants as s
 use Rattle.hz_tree.specs.declared.tree.Tree.{Tree}
 use Rattle.hz_tree.specs.Look.{Terminal, Look, look}
-use Rattle.hz_tree.specs.Symbols.{Part, Parts, RowOf, goes, refuses, Value, Row, AfterKey, valued, called, AfterName, goes_over, initialised, AfterLeft, target_of, expression_of, Rests}
+use Rattle.hz_tree.specs.Symbols.{Part, Parts, goes, refuses, Value, Row, AfterKey, valued, called, AfterName, goes_over, initialised, AfterLeft, target_of, expression_of, Rests}
 use Rattle.hz_tree.specs.Grammar.{row}
 use Rattle.hz_tree.specs.Reading.{Reading, Got, Stuck, Deeper, and_then, takes, Reader, read_one, read_all, by_row, reads_to, reads_by, enough, Event, Events, told, telling, event_row, reads, tells}
 use Rattle.hz_tree.specs.Events.{said_all, said_option, said_parameters, events_of}
@@ -47,7 +47,7 @@ said_after_name (initialised value more test update) =
 abbrev pub said_rests : Rests → List Event
 said_rests r =
     said_tree_option r.power ++ (said_operators r.operators ++ (said_operators r.logical
-        ++ (said_arms r.cond ++ (said_assign r.assign ++ said_trees r.comma))))
+    ++ (said_arms r.cond ++ (said_assign r.assign ++ said_trees r.comma))))
 
 abbrev pub said_after_left : AfterLeft → List Event
 said_after_left (target_of iteration tree) = events_of tree
@@ -137,6 +137,10 @@ abbrev pub SaidRow : (m : Nonterminal) → Row m → Type 0
 SaidRow m (goes right make) = (p : Parts Value right) → said_value m (make p) ≡ told right (said_parts right p)
 SaidRow m (refuses cause) = Unit {0}
 
+pub says_if : (m : Nonterminal) (t : Bool) (a b : Row m) → SaidRow m a → SaidRow m b → SaidRow m (if t then a else b)
+says_if m true a b h i = h
+says_if m false a b h i = i
+
 -- ---- readings
 
 abbrev pub say : (m : Nonterminal) → Reading (Value m) → Reading (List Event)
@@ -196,7 +200,7 @@ module _ (reads_trees : Reader Value) (reads_events : Reader Events)
   say_then : (x : Symbol) (xs : List Symbol) (r : Reading (Part Value x))
       → ((ts : List Terminal) → read_all reads_events xs ts ≡ say_parts xs (read_all reads_trees xs ts))
       → and_then (say_part x r) (λ v rest. and_then (read_all reads_events xs rest) (λ vs end. Got (v, vs) end))
-          ≡ say_parts (x ∷ xs) (and_then r (λ v rest. and_then (read_all reads_trees xs rest) (λ vs end. Got (v, vs) end)))
+      ≡ say_parts (x ∷ xs) (and_then r (λ v rest. and_then (read_all reads_trees xs rest) (λ vs end. Got (v, vs) end)))
   say_then x xs (Got v rest) h =
       ap (λ y. and_then y (λ vs end. Got (said_part x v, vs) end)) (h rest) ∙ say_cons x xs v (read_all reads_trees xs rest)
   say_then x xs (Stuck cause ts) h = refl

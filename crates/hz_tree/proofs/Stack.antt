@@ -1,5 +1,5 @@
 -- What a stack of symbols makes of the tokens, symbol by symbol.
-use Rattle.std.proofs.Common.{◌≡◌, ℕ, Bool, true, false, cond, if◌then◌else◌, List, [], ◌∷◌, ◌++◌, refl, ap, sym, ◌∙◌, append_assoc, append-nil}
+use Rattle.std.proofs.Common.{◌≡◌, true, false, if◌then◌else◌, List, [], ◌∷◌, ◌++◌, refl, ap, sym, ◌∙◌, append_assoc, append-nil}
 use Rattle.hz_tree.specs.declared.class.Class.{Class}
 use Rattle.hz_tree.specs.declared.outside.BadKind.{BadKind}
 use Rattle.hz_tree.specs.declared.outside.BadKind.TheVariants as bad
@@ -12,7 +12,7 @@ use Rattle.hz_tree.specs.Classes.{fits}
 use Rattle.hz_tree.specs.Look.{Terminal, Look, look, stuck}
 use Rattle.hz_tree.specs.Symbols.{Part, Parts, RowOf, goes, refuses}
 use Rattle.hz_tree.specs.Grammar.{row, Step, pushes, fails, step_of, step}
-use Rattle.hz_tree.specs.Reading.{Reading, Got, Stuck, Deeper, and_then, takes, place_ahead, end_behind, read_one, read_all, by_row, Event, Opened, Counted, Closed, Events, told, telling, tells}
+use Rattle.hz_tree.specs.Reading.{Reading, Got, Stuck, Deeper, and_then, place_ahead, end_behind, read_one, read_all, by_row, Event, Opened, Counted, Closed, Events, told, telling, tells}
 use Rattle.hz_tree.specs.Stack.{Verdict, Through, At, Lost, verdict, ends, before}
 use Rattle.hz_tree.proofs.Law.{tells_law}
 
@@ -50,7 +50,7 @@ cons_got x xs v Deeper = refl
 
 cons_verdict : (x : Symbol) (xs : List Symbol) (r : Reading (Part Events x))
     → verdict (x ∷ xs) (and_then r (λ v rest. and_then (read_all tells xs rest) (λ vs end. Got (v, vs) end)))
-        ≡ follow (verdict_one x r) (λ rest. verdict xs (read_all tells xs rest))
+    ≡ follow (verdict_one x r) (λ rest. verdict xs (read_all tells xs rest))
 cons_verdict x xs (Got v rest) = cons_got x xs v (read_all tells xs rest)
 cons_verdict x xs (Stuck cause ts) = refl
 cons_verdict x xs Deeper = refl

@@ -185,7 +185,6 @@ operators_fine level c k.Percent = binary_fine c level 10 k.Percent by.Remainder
 operators_fine level c k.In = in_fine c level c.no_in
 operators_fine level c _ = refl
 
-
 -- ---- all rows
 
 pub rows_fine : Fine row

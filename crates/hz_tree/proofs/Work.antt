@@ -1,7 +1,6 @@
 -- The turns that a stack of symbols takes: one less with each symbol that leaves it.
-use Rattle.std.proofs.Common.{◌≡◌, ℕ, zero, suc, ◌+◌, ◌*◌, ◌<◌, ◌≤◌, Bool, true, false, cond, if◌then◌else◌, List, [], ◌∷◌, ◌++◌, length, refl, ap, sym, ◌∙◌, subst, arith}
+use Rattle.std.proofs.Common.{◌≡◌, ℕ, zero, suc, ◌+◌, ◌*◌, ◌<◌, ◌≤◌, Bool, true, if◌then◌else◌, List, [], ◌∷◌, ◌++◌, length, refl, ap, sym, ◌∙◌, arith}
 use Rattle.hz_tree.specs.declared.class.Class.{Class}
-use Rattle.hz_tree.specs.declared.outside.BadKind.{BadKind}
 use Rattle.hz_tree.specs.declared.nonterminal.Nonterminal.{Nonterminal}
 use Rattle.hz_tree.specs.declared.symbol.Symbol.{Symbol}
 use Rattle.hz_tree.specs.declared.symbol.Symbol.TheVariants as s
@@ -10,7 +9,7 @@ use Rattle.hz_tree.specs.Classes.{fits}
 use Rattle.hz_tree.specs.Look.{Terminal, look, stuck}
 use Rattle.hz_tree.specs.Symbols.{Part, Parts, RowOf, goes, refuses}
 use Rattle.hz_tree.specs.Grammar.{row, Step, pushes, fails, step_of, step}
-use Rattle.hz_tree.specs.Reading.{Reading, Got, Stuck, Deeper, and_then, Reader, read_one, read_all, by_row, reads_to, reads_by, enough, Event, Events, told, telling, event_row, tells}
+use Rattle.hz_tree.specs.Reading.{Reading, Got, Stuck, Deeper, and_then, Reader, read_one, read_all, by_row, reads_to, reads_by, enough, Event, Events, telling, event_row, tells}
 use Rattle.hz_tree.specs.Stack.{Verdict, Through, At, Lost, verdict, ends, before, if_got, turns_one, turns_all, turns_row, turns_to, turns, work}
 use Rattle.hz_tree.proofs.Ranks.{rank, eats, eats_symbol, rank_small}
 use Rattle.hz_tree.proofs.Depth.{count, Within, one_within, shrinks, Ends, ends_first, reaches, agrees, agree_one, same_depth}
@@ -41,11 +40,11 @@ module _ (reads reads' : Reader Events) (t t' : Nonterminal → List Terminal �
       let first : Ends (read_one reads symbol us) = ends_first (read_one reads symbol us) _ h in
       let one : turns_one t' symbol us ≡ turns_one t symbol us = turn_one symbol us first in
       let rest : if_got (read_one reads' symbol us) (turns_all t' reads' more) ≡ if_got (read_one reads symbol us) (turns_all t reads more) =
-              got_agrees (read_one reads symbol us) (read_one reads' symbol us)
-                  (λ v rest. and_then {B = Part Events symbol × Parts Events more} (read_all reads more rest) (λ vs end. Got (v, vs) end))
-                  (turns_all t reads more) (turns_all t' reads' more)
-                  (agree_one reads reads' agree symbol us first) h
-                  (λ v rest ends. turn_all more rest (ends_first (read_all reads more rest) _ ends)) in
+      got_agrees (read_one reads symbol us) (read_one reads' symbol us)
+      (λ v rest. and_then {B = Part Events symbol × Parts Events more} (read_all reads more rest) (λ vs end. Got (v, vs) end))
+      (turns_all t reads more) (turns_all t' reads' more)
+      (agree_one reads reads' agree symbol us first) h
+      (λ v rest ends. turn_all more rest (ends_first (read_all reads more rest) _ ends)) in
       ap (λ x. x + if_got (read_one reads' symbol us) (turns_all t' reads' more)) one ∙ ap (λ x. turns_one t symbol us + x) rest
 
   turn_row : (m : Nonterminal) (r : RowOf Events m) (us : List Terminal) → Ends (by_row reads m r us) → turns_row t' reads' m r us ≡ turns_row t reads m r us
@@ -57,7 +56,7 @@ unfolding turns_to reads_to
 turns_agree zero m ts h = absurd h
 turns_agree (suc d) m ts h =
     turn_row (reads_to event_row d) (reads_to event_row (suc d)) (turns_to d) (turns_to (suc d)) (agrees event_row d) (turns_agree d)
-        m (event_row m (look ts)) ts h
+    m (event_row m (look ts)) ts h
 
 turns_more : (k d e : ℕ) (m : Nonterminal) (ts : List Terminal) → e ≡ k + d → 16 * length ts + rank m < d → turns_to e m ts ≡ turns_to d m ts
 turns_more zero d e m ts sum h = ap (λ x. turns_to x m ts) (omega arith)
@@ -90,10 +89,10 @@ module _ (reads reads' : Reader Events) (t t' : Nonterminal → List Terminal �
   equal_all [] us h = refl
   equal_all (symbol ∷ more) us h =
       let rest : if_got (read_one reads symbol us) (turns_all t reads more) ≡ if_got (read_one reads' symbol us) (turns_all t' reads' more) =
-              got_same (eats_symbol symbol) (length us) (read_one reads symbol us) (read_one reads' symbol us)
-                  (turns_all t reads more) (turns_all t' reads' more)
-                  (same_one reads reads' bound shorter same symbol us h) (one_within reads shorter symbol us)
-                  (λ v rest w. equal_all more rest (omega arith)) in
+      got_same (eats_symbol symbol) (length us) (read_one reads symbol us) (read_one reads' symbol us)
+      (turns_all t reads more) (turns_all t' reads' more)
+      (same_one reads reads' bound shorter same symbol us h) (one_within reads shorter symbol us)
+      (λ v rest w. equal_all more rest (omega arith)) in
       ap (λ x. x + if_got (read_one reads symbol us) (turns_all t reads more)) (equal_one symbol us h) ∙ ap (λ x. turns_one t' symbol us + x) rest
 
   equal_row : (m : Nonterminal) (r : RowOf Events m) (us : List Terminal) → length us ≤ bound → turns_row t reads m r us ≡ turns_row t' reads' m r us
@@ -105,9 +104,9 @@ unfolding turns turns_to reads_by
 turns_law m ts =
     sym (turns_agree (enough ts) m ts (tells_ends m ts))
     ∙ equal_row (reads_to event_row (enough ts)) tells (turns_to (enough ts)) turns (length ts) (shrinks event_row events_fine (enough ts))
-        (λ n us h. same_depth event_row (enough ts) (enough us) n us (reaches event_row events_fine (enough ts) n us (omega (arith, rank_small n))) (tells_ends n us))
-        (λ n us h. turns_same (enough ts) (enough us) n us (omega (arith, rank_small n)) (omega (arith, rank_small n)))
-        m (event_row m (look ts)) ts (omega arith)
+    (λ n us h. same_depth event_row (enough ts) (enough us) n us (reaches event_row events_fine (enough ts) n us (omega (arith, rank_small n))) (tells_ends n us))
+    (λ n us h. turns_same (enough ts) (enough us) n us (omega (arith, rank_small n)) (omega (arith, rank_small n)))
+    m (event_row m (look ts)) ts (omega arith)
 
 -- ---- lists of symbols
 
@@ -123,7 +122,7 @@ through_before es Lost f = refl
 
 got_through : (x : Symbol) (xs : List Symbol) (r : Reading (Part Events x)) (f : List Terminal → ℕ)
     → if_got r (λ rest. if_through (verdict xs (read_all tells xs rest)) f)
-        ≡ if_through (verdict (x ∷ xs) (and_then r (λ v rest. and_then (read_all tells xs rest) (λ vs end. Got (v, vs) end)))) f
+    ≡ if_through (verdict (x ∷ xs) (and_then r (λ v rest. and_then (read_all tells xs rest) (λ vs end. Got (v, vs) end)))) f
 got_through x xs (Got v rest) f = go (read_all tells xs rest)
   where
     go : (r : Reading (Parts Events xs)) → if_through (verdict xs r) f ≡ if_through (verdict (x ∷ xs) (and_then r (λ vs end. Got (v, vs) end))) f
@@ -143,10 +142,10 @@ unfolding work ends
 work_append [] ys ts = omega arith
 work_append (x ∷ xs) ys ts =
     let rest : if_got (read_one tells x ts) (turns_all turns tells (xs ++ ys))
-            ≡ if_got (read_one tells x ts) (turns_all turns tells xs) + if_got (read_one tells x ts) (λ rest. if_through (ends xs rest) (work ys)) =
-            got_sum (read_one tells x ts) (turns_all turns tells (xs ++ ys)) (turns_all turns tells xs) (λ rest. if_through (ends xs rest) (work ys)) (work_append xs ys) in
+    ≡ if_got (read_one tells x ts) (turns_all turns tells xs) + if_got (read_one tells x ts) (λ rest. if_through (ends xs rest) (work ys)) =
+    got_sum (read_one tells x ts) (turns_all turns tells (xs ++ ys)) (turns_all turns tells xs) (λ rest. if_through (ends xs rest) (work ys)) (work_append xs ys) in
     let last : if_got (read_one tells x ts) (λ rest. if_through (ends xs rest) (work ys)) ≡ if_through (ends (x ∷ xs) ts) (work ys) =
-            got_through x xs (read_one tells x ts) (work ys) in
+    got_through x xs (read_one tells x ts) (work ys) in
     omega (arith, rest, last)
 
 -- ---- one turn
@@ -173,8 +172,8 @@ work_pushes m right xs ts h =
     let row_is : step_of (row m (look ts)) ≡ pushes right = step_is m (look ts) ∙ h in
     let own : turns m ts ≡ work right ts = turns_law m ts ∙ row_turns m (row m (look ts)) right ts row_is in
     let behind : if_got (tells m ts) (work xs) ≡ if_through (ends right ts) (work xs) =
-            got_is_through m (tells m ts) (work xs)
-            ∙ ap (λ v. if_through v (work xs)) (ap (verdict_one (s.Read m)) (tells_law m ts) ∙ row_pushes m (row m (look ts)) right ts row_is) in
+    got_is_through m (tells m ts) (work xs)
+    ∙ ap (λ v. if_through v (work xs)) (ap (verdict_one (s.Read m)) (tells_law m ts) ∙ row_pushes m (row m (look ts)) right ts row_is) in
     omega (arith, own, behind, work_append right xs ts)
 
 pub work_take : (wanted : Class) (xs : List Symbol) (x : Terminal) (ts : List Terminal) → fits wanted x.class ≡ true

@@ -1,5 +1,5 @@
 -- The classes of tokens that the grammar tells apart.
-use Rattle.std.specs.Prelude.{◌≡◌, ℕ, Bool, true, false, if◌then◌else◌, List, [], ◌∷◌, codes, Option, Some, None}
+use Rattle.std.specs.Prelude.{Bool, true, false, if◌then◌else◌, List, [], ◌∷◌, codes, Option, Some, None}
 use Rattle.std.specs.Str.{bytes_eq}
 use denote.Enum.Bare.{sameb}
 use Rattle.hz_tree.specs.contracts.class.Class.{the_type as class_type}
@@ -12,7 +12,6 @@ use Rattle.hz_tree.specs.declared.class.Bracketing.{Bracketing}
 use Rattle.hz_tree.specs.declared.class.Bracketing.TheVariants as does
 use Rattle.hz_tree.specs.declared.outside.BadKind.{BadKind}
 use Rattle.hz_tree.specs.declared.outside.BadKind.TheVariants as bad
-use Rattle.hz_tree.specs.declared.outside.OutsideKind.{OutsideKind}
 use Rattle.hz_tree.specs.declared.outside.OutsideKind.TheVariants as outside
 use Rattle.hz_tree.specs.declared.token.TokenKind.{TokenKind}
 use Rattle.hz_tree.specs.declared.token.TokenKind.TheVariants as token

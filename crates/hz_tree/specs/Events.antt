@@ -1,5 +1,5 @@
 -- The events of a tree: what its tokens tell of functions, from the first to the last.
-use Rattle.std.specs.Prelude.{ℕ, List, [], ◌∷◌, ◌++◌, map, Option, Some, None}
+use Rattle.std.specs.Prelude.{ℕ, List, [], ◌∷◌, ◌++◌, Option, Some, None}
 use Rattle.hz_tree.specs.declared.tree.Bound.{Bound}
 use Rattle.hz_tree.specs.declared.tree.FunctionKind.{FunctionKind}
 use Rattle.hz_tree.specs.declared.tree.Tree.{Tree, fold-Tree}

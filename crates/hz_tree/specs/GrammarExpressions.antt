@@ -1,5 +1,5 @@
 -- Rows of the grammar: expressions from the comma down to the operators (ECMA-262, 13.14 to 13.16 and 15.3 to 15.5).
-use Rattle.std.specs.Prelude.{ℕ, Bool, true, false, ◌&&◌, ◌||◌, if◌then◌else◌, List, [], ◌∷◌, Option, Some, None}
+use Rattle.std.specs.Prelude.{Bool, true, false, if◌then◌else◌, List, [], ◌∷◌, Some, None}
 use Rattle.hz_tree.specs.declared.class.Class.{Class}
 use Rattle.hz_tree.specs.declared.class.Class.TheVariants as k
 use Rattle.hz_tree.specs.declared.nonterminal.Context.{Context}
@@ -35,10 +35,10 @@ expr_rest_row c _ = goes [] (λ _. [])
 abbrev pub arrow_row : (c : Context) → (parenthesised : Bool) → Row (n.Assign c)
 arrow_row c true =
     goes (Open kind.Arrow ∷ Read n.Params ∷ Read n.ArrowSign ∷ Read (n.ArrowBody c) ∷ Close ∷ [])
-        (λ (at, (params, (_, (body, (end, _))))). function_tree at end kind.Arrow None params body)
+    (λ (at, (params, (_, (body, (end, _))))). function_tree at end kind.Arrow None params body)
 arrow_row c false =
     goes (Open kind.Arrow ∷ Read n.Bound ∷ Count ∷ Read n.ArrowSign ∷ Read (n.ArrowBody c) ∷ Close ∷ [])
-        (λ (at, (bound, (_, (_, (body, (end, _)))))). function_tree at end kind.Arrow None (bound ∷ [], None) body)
+    (λ (at, (bound, (_, (_, (body, (end, _)))))). function_tree at end kind.Arrow None (bound ∷ [], None) body)
 
 -- `=>` on the line of the token before it
 abbrev pub arrow_sign_by : Look → (newline : Bool) → Row n.ArrowSign
@@ -78,8 +78,8 @@ yield_value_row c l = yield_value_by c l.one_newline l.one
 abbrev pub operation_row : (c : Context) → Row (n.Assign c)
 operation_row c =
     goes (Read (n.Power c) ∷ Read (n.Operators 3 c) ∷ Read (n.Logical c) ∷ Read (n.CondRest c) ∷ Read (n.AssignRest c) ∷ [])
-        (λ (operand, (operators, (logical, (cond, (assign, _))))).
-            assigned (conditional (joined (joined operand operators) logical) cond) assign)
+    (λ (operand, (operators, (logical, (cond, (assign, _))))).
+    assigned (conditional (joined (joined operand operators) logical) cond) assign)
 
 -- `yield` is an operator within generators alone; elsewhere no expression begins with it
 abbrev pub assign_by : (c : Context) → (yields : Bool) → Class → Row (n.Assign c)
@@ -116,5 +116,5 @@ assign_rest_row c _ = goes [] (λ _. None)
 abbrev pub cond_rest_row : (c : Context) → Class → Row (n.CondRest c)
 cond_rest_row c k.Question =
     goes (Take k.Question ∷ Read (n.Assign (with_in c)) ∷ Take k.Colon ∷ Read (n.Assign c) ∷ [])
-        (λ (_, (first, (_, (second, _)))). Some (first, second))
+    (λ (_, (first, (_, (second, _)))). Some (first, second))
 cond_rest_row c _ = goes [] (λ _. None)

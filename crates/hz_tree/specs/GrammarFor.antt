@@ -1,5 +1,5 @@
 -- Rows of the grammar: the head of a `for` (ECMA-262, 14.7.4 and 14.7.5).
-use Rattle.std.specs.Prelude.{ℕ, Bool, true, false, ◌&&◌, ◌||◌, if◌then◌else◌, List, [], ◌∷◌, Option, Some, None}
+use Rattle.std.specs.Prelude.{ℕ, Bool, true, false, ◌&&◌, ◌||◌, if◌then◌else◌, [], ◌∷◌, Some, None}
 use Rattle.hz_tree.specs.declared.class.Class.{Class}
 use Rattle.hz_tree.specs.declared.class.Class.TheVariants as k
 use Rattle.hz_tree.specs.declared.outside.BadKind.TheVariants as bad
@@ -35,8 +35,8 @@ declared_head_row c k.In = goes (Take k.In ∷ Read (n.Expr c) ∷ []) (λ (_, (
 declared_head_row c k.Of = goes (Take k.Of ∷ Read (n.Assign c) ∷ []) (λ (_, (values, _)). goes_over iteration.Of values)
 declared_head_row c _ =
     goes (Read (n.Initial (without_in c)) ∷ Read (n.MoreBinds (without_in c)) ∷ Take k.Semicolon ∷ Read (n.OptionalExpr c)
-        ∷ Take k.Semicolon ∷ Read (n.OptionalExpr c) ∷ [])
-        (λ (value, (more, (_, (test, (_, (update, _)))))). initialised value more test update)
+    ∷ Take k.Semicolon ∷ Read (n.OptionalExpr c) ∷ [])
+    (λ (value, (more, (_, (test, (_, (update, _)))))). initialised value more test update)
 
 -- ---- heads that begin with an expression
 
@@ -57,15 +57,20 @@ left_head_row c k.In = goes (Take k.In ∷ Read (n.Expr c) ∷ []) (λ (_, (valu
 left_head_row c k.Of = goes (Take k.Of ∷ Read (n.Assign c) ∷ []) (λ (_, (values, _)). target_of iteration.Of values)
 left_head_row c _ =
     goes (Read n.PostfixRest ∷ Read (n.PowerRest (without_in c)) ∷ Read (n.Operators 3 (without_in c)) ∷ Read (n.Logical (without_in c))
-        ∷ Read (n.CondRest (without_in c)) ∷ Read (n.AssignRest (without_in c)) ∷ Read (n.ExprRest (without_in c))
-        ∷ Take k.Semicolon ∷ Read (n.OptionalExpr c) ∷ Take k.Semicolon ∷ Read (n.OptionalExpr c) ∷ [])
-        (λ (postfix, (power, (operators, (logical, (cond, (assign, (comma, (_, (test, (_, (update, _))))))))))).
-            expression_of
-                (record {
-                  postfix = postfix; power = power; operators = operators; logical = logical; cond = cond;
-                  assign = assign; comma = comma
-                })
-                test update)
+    ∷ Read (n.CondRest (without_in c)) ∷ Read (n.AssignRest (without_in c)) ∷ Read (n.ExprRest (without_in c))
+    ∷ Take k.Semicolon ∷ Read (n.OptionalExpr c) ∷ Take k.Semicolon ∷ Read (n.OptionalExpr c) ∷ [])
+    (λ (postfix, (power, (operators, (logical, (cond, (assign, (comma, (_, (test, (_, (update, _))))))))))).
+    expression_of
+    (record {
+      postfix = postfix;
+      power = power;
+      operators = operators;
+      logical = logical;
+      cond = cond;
+      assign = assign;
+      comma = comma;
+    })
+    test update)
 
 abbrev pub is_of : Class → Bool
 is_of k.Of = true
@@ -82,8 +87,8 @@ abbrev pub expr_head_row : (c : Context) → Look → Row (n.Head c)
 expr_head_row c l =
     if is_async_word l.one && is_of l.two then refuses (bad.Outside outside.Async)
     else (if is_no_left c l then
-        goes (Read (n.Expr (without_in c)) ∷ Take k.Semicolon ∷ Read (n.OptionalExpr c) ∷ Take k.Semicolon ∷ Read (n.OptionalExpr c) ∷ [])
-            (λ (first, (_, (test, (_, (update, _))))). t.ExprHead (place first) (Some first) test update)
+    goes (Read (n.Expr (without_in c)) ∷ Take k.Semicolon ∷ Read (n.OptionalExpr c) ∷ Take k.Semicolon ∷ Read (n.OptionalExpr c) ∷ [])
+    (λ (first, (_, (test, (_, (update, _))))). t.ExprHead (place first) (Some first) test update)
     else goes (Read (n.Left c) ∷ Read (n.LeftHead c) ∷ []) (λ (left, (more, _)). left_head left more))
 
 abbrev pub head_by : (c : Context) → Look → Class → Row (n.Head c)
@@ -95,7 +100,7 @@ head_by c l k.Const =
     goes (Take k.Const ∷ Read n.Bound ∷ Read (n.DeclaredHead c) ∷ []) (λ (first, (bound, (more, _))). declared_head first.token.at word.Const bound more)
 head_by c l k.Semicolon =
     goes (Take k.Semicolon ∷ Read (n.OptionalExpr c) ∷ Take k.Semicolon ∷ Read (n.OptionalExpr c) ∷ [])
-        (λ (first, (test, (_, (update, _)))). t.ExprHead first.token.at None test update)
+    (λ (first, (test, (_, (update, _)))). t.ExprHead first.token.at None test update)
 head_by c l _ = expr_head_row c l
 
 abbrev pub head_row : (c : Context) → Look → Row (n.Head c)

@@ -1,11 +1,11 @@
 -- Rows of the grammar: names, parameters and bodies of functions (ECMA-262, 15).
-use Rattle.std.specs.Prelude.{ℕ, Bool, true, false, if◌then◌else◌, List, [], ◌∷◌, Option, Some, None}
+use Rattle.std.specs.Prelude.{ℕ, Bool, if◌then◌else◌, List, [], ◌∷◌, Option, Some, None}
 use Rattle.hz_tree.specs.declared.class.Class.{Class}
 use Rattle.hz_tree.specs.declared.class.Class.TheVariants as k
 use Rattle.hz_tree.specs.declared.outside.BadKind.TheVariants as bad
 use Rattle.hz_tree.specs.declared.outside.OutsideKind.TheVariants as outside
 use Rattle.hz_tree.specs.declared.nonterminal.Nonterminal.TheVariants as n
-use Rattle.hz_tree.specs.declared.symbol.Symbol.TheVariants.{Take, Read, Open, Count, Close}
+use Rattle.hz_tree.specs.declared.symbol.Symbol.TheVariants.{Take, Read, Count}
 use Rattle.hz_tree.specs.declared.tree.Bound.{Bound}
 use Rattle.hz_tree.specs.declared.tree.Rest.{Rest}
 use Rattle.hz_tree.specs.declared.tree.FunctionKind.{FunctionKind}
@@ -31,7 +31,7 @@ abbrev pub parameters_row : Class → Row n.Parameters
 parameters_row k.RightParen = goes [] (λ _. ([], None))
 parameters_row k.Ellipsis =
     goes (Take k.Ellipsis ∷ Read n.Bound ∷ Read n.ParameterEnd ∷ [])
-        (λ (dots, (bound, _)). ([], Some (record { at = dots.token.at; bound = bound })))
+    (λ (dots, (bound, _)). ([], Some (record { at = dots.token.at; bound = bound })))
 parameters_row _ =
     goes (Read n.Bound ∷ Count ∷ Read n.MoreParameters ∷ []) (λ (bound, (_, (more, _))). (bound ∷ more.0, more.1))
 
@@ -48,4 +48,4 @@ parameter_end_row _ = goes [] (λ _. tt)
 abbrev pub body_row : (generator : Bool) → Row (n.Body generator)
 body_row generator =
     goes (Take k.LeftBrace ∷ Read (n.Items (of_body generator)) ∷ Take k.RightBrace ∷ [])
-        (λ (brace, (items, _)). t.Body brace.token.at items)
+    (λ (brace, (items, _)). t.Body brace.token.at items)

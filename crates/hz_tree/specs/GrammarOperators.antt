@@ -1,5 +1,5 @@
 -- Rows of the grammar: operators (ECMA-262, 13.4 to 13.13), and the trees that they build.
-use Rattle.std.specs.Prelude.{ℕ, suc, Bool, true, false, not, ◌&&◌, ◌||◌, if◌then◌else◌, nat_le, List, [], ◌∷◌, Option, Some, None}
+use Rattle.std.specs.Prelude.{ℕ, suc, Bool, true, false, if◌then◌else◌, nat_le, List, [], ◌∷◌, Option, Some, None}
 use Rattle.hz_tree.specs.declared.class.Class.{Class}
 use Rattle.hz_tree.specs.declared.class.Class.TheVariants as k
 use Rattle.hz_tree.specs.declared.nonterminal.Context.{Context}
@@ -15,7 +15,7 @@ use Rattle.hz_tree.specs.declared.symbol.Symbol.TheVariants.{Take, Read}
 use Rattle.hz_tree.specs.declared.tree.Tree.{Tree}
 use Rattle.hz_tree.specs.declared.tree.Tree.TheVariants as t
 use Rattle.hz_tree.specs.Look.{Look}
-use Rattle.hz_tree.specs.Symbols.{goes, refuses, Row}
+use Rattle.hz_tree.specs.Symbols.{goes, Row}
 use Rattle.hz_tree.specs.Places.{place}
 
 -- ---- what the rests of an expression make of its beginning
@@ -48,8 +48,8 @@ assigned target (Some o) = t.Assign (place target) target o.0 o.1
 abbrev pub binary_row : (c : Context) → (level own : ℕ) → Class → BinaryOperator → Row (n.Operators level c)
 binary_row c level own one operator =
     if nat_le level own then
-        goes (Take one ∷ Read (n.Power c) ∷ Read (n.Operators (suc own) c) ∷ Read (n.Operators level c) ∷ [])
-            (λ (_, (operand, (tighter, (more, _)))). (operator, joined operand tighter) ∷ more)
+    goes (Take one ∷ Read (n.Power c) ∷ Read (n.Operators (suc own) c) ∷ Read (n.Operators level c) ∷ [])
+    (λ (_, (operand, (tighter, (more, _)))). (operator, joined operand tighter) ∷ more)
     else goes [] (λ _. [])
 
 abbrev pub in_row : (c : Context) → (level : ℕ) → (no_in : Bool) → Row (n.Operators level c)
@@ -93,7 +93,7 @@ logical_row c _ = goes [] (λ _. [])
 abbrev pub coalesce_row : (c : Context) → Class → Row (n.Coalesce c)
 coalesce_row c k.Nullish =
     goes (Take k.Nullish ∷ Read (n.Power c) ∷ Read (n.Operators 3 c) ∷ Read (n.Coalesce c) ∷ [])
-        (λ (_, (operand, (tighter, (more, _)))). (by.Nullish, joined operand tighter) ∷ more)
+    (λ (_, (operand, (tighter, (more, _)))). (by.Nullish, joined operand tighter) ∷ more)
 coalesce_row c _ = goes [] (λ _. [])
 
 -- ---- `**` and operators of one operand

@@ -1,12 +1,12 @@
 -- Rows of the grammar: left-hand sides, calls, primary expressions and templates (ECMA-262, 13.2 and 13.3).
-use Rattle.std.specs.Prelude.{ℕ, Bool, true, false, if◌then◌else◌, List, [], ◌∷◌, Option, Some, None}
+use Rattle.std.specs.Prelude.{ℕ, Bool, true, false, if◌then◌else◌, List, [], ◌∷◌, Some, None}
 use Rattle.hz_tree.specs.declared.class.Class.{Class}
 use Rattle.hz_tree.specs.declared.class.Class.TheVariants as k
 use Rattle.hz_tree.specs.declared.outside.BadKind.TheVariants as bad
 use Rattle.hz_tree.specs.declared.outside.OutsideKind.TheVariants as outside
 use Rattle.hz_tree.specs.declared.nonterminal.Context.{Context}
 use Rattle.hz_tree.specs.declared.nonterminal.Nonterminal.TheVariants as n
-use Rattle.hz_tree.specs.declared.symbol.Symbol.TheVariants.{Take, Read, Open, Count, Close}
+use Rattle.hz_tree.specs.declared.symbol.Symbol.TheVariants.{Take, Read, Open, Close}
 use Rattle.hz_tree.specs.declared.token.TokenKind.{TokenKind}
 use Rattle.hz_tree.specs.declared.token.TokenKind.TheVariants as token
 use Rattle.hz_tree.specs.declared.tree.FunctionKind.TheVariants as kind
@@ -34,11 +34,11 @@ tails_row c k.Dot =
     goes (Take k.Dot ∷ Read n.Word ∷ Read (n.Tails c) ∷ []) (λ (first, (word, (more, _))). t.Dot first.token.at word.token.text ∷ more)
 tails_row c k.LeftBracket =
     goes (Take k.LeftBracket ∷ Read (n.Expr (with_in c)) ∷ Take k.RightBracket ∷ Read (n.Tails c) ∷ [])
-        (λ (first, (key, (_, (more, _)))). t.Index first.token.at key ∷ more)
+    (λ (first, (key, (_, (more, _)))). t.Index first.token.at key ∷ more)
 tails_row c k.LeftParen = goes (Read (n.Args c) ∷ Read (n.Tails c) ∷ []) (λ (args, (more, _)). args ∷ more)
 tails_row c k.OptionalDot =
     goes (Take k.OptionalDot ∷ Read (n.OptionalTail c) ∷ Read (n.Tails c) ∷ [])
-        (λ (first, (tail, (more, _))). t.Optional first.token.at tail ∷ more)
+    (λ (first, (tail, (more, _))). t.Optional first.token.at tail ∷ more)
 tails_row c k.TemplateWhole = refuses (bad.Outside outside.TaggedTemplate)
 tails_row c k.TemplateHead = refuses (bad.Outside outside.TaggedTemplate)
 tails_row c _ = goes [] (λ _. [])
@@ -61,7 +61,7 @@ abbrev pub new_row : (c : Context) → (two : Class) → Row (n.New c)
 new_row c k.Dot = goes (Take k.New ∷ Take k.Dot ∷ Take k.Target ∷ []) (λ (first, _). t.NewTarget first.token.at)
 new_row c _ =
     goes (Take k.New ∷ Read (n.Callee c) ∷ Read (n.Members c) ∷ Read (n.NewArgs c) ∷ [])
-        (λ (first, (callee, (members, (args, _)))). t.New first.token.at callee members args)
+    (λ (first, (callee, (members, (args, _)))). t.New first.token.at callee members args)
 
 abbrev pub callee_row : (c : Context) → Class → Row (n.Callee c)
 callee_row c k.New = goes (Read (n.New c) ∷ []) (λ (callee, _). callee)
@@ -72,7 +72,7 @@ members_row c k.Dot =
     goes (Take k.Dot ∷ Read n.Word ∷ Read (n.Members c) ∷ []) (λ (first, (word, (more, _))). t.Dot first.token.at word.token.text ∷ more)
 members_row c k.LeftBracket =
     goes (Take k.LeftBracket ∷ Read (n.Expr (with_in c)) ∷ Take k.RightBracket ∷ Read (n.Members c) ∷ [])
-        (λ (first, (key, (_, (more, _)))). t.Index first.token.at key ∷ more)
+    (λ (first, (key, (_, (more, _)))). t.Index first.token.at key ∷ more)
 members_row c _ = goes [] (λ _. [])
 
 -- an optional chain does not stand behind a `new` without arguments
@@ -113,10 +113,10 @@ has_octal _ = false
 abbrev pub function_expression_row : (c : Context) → (two : Class) → Row (n.Primary c)
 function_expression_row c k.Star =
     goes (Open kind.Generator ∷ Take k.Function ∷ Take k.Star ∷ Read n.OwnName ∷ Read n.Params ∷ Read (n.Body true) ∷ Close ∷ [])
-        (λ (at, (_, (_, (name, (params, (body, (end, _))))))). function_tree at end kind.Generator name params body)
+    (λ (at, (_, (_, (name, (params, (body, (end, _))))))). function_tree at end kind.Generator name params body)
 function_expression_row c _ =
     goes (Open kind.Function ∷ Take k.Function ∷ Read n.OwnName ∷ Read n.Params ∷ Read (n.Body false) ∷ Close ∷ [])
-        (λ (at, (_, (name, (params, (body, (end, _)))))). function_tree at end kind.Function name params body)
+    (λ (at, (_, (name, (params, (body, (end, _)))))). function_tree at end kind.Function name params body)
 
 -- a regular expression literal is left out of the language
 abbrev pub primary_by : (c : Context) → Look → Class → Row (n.Primary c)
@@ -130,16 +130,16 @@ primary_by c l k.Text =
     goes (Take k.Text ∷ []) (λ (first, _). t.Text first.token.at first.token.text (has_octal first.token.kind))
 primary_by c l k.LeftParen =
     goes (Take k.LeftParen ∷ Read (n.Expr (with_in c)) ∷ Take k.RightParen ∷ [])
-        (λ (first, (value, _)). t.Parentheses first.token.at value)
+    (λ (first, (value, _)). t.Parentheses first.token.at value)
 primary_by c l k.TemplateWhole =
     goes (Take k.TemplateWhole ∷ []) (λ (first, _). t.Template first.token.at (first.token.text ∷ []) [])
 primary_by c l k.TemplateHead =
     goes (Take k.TemplateHead ∷ Read (n.Expr (with_in c)) ∷ Read (n.TemplateRest (with_in c)) ∷ [])
-        (λ (first, (hole, (more, _))). t.Template first.token.at (first.token.text ∷ more.0) (hole ∷ more.1))
+    (λ (first, (hole, (more, _))). t.Template first.token.at (first.token.text ∷ more.0) (hole ∷ more.1))
 primary_by c l k.Function = function_expression_row c l.two
 primary_by c l k.LeftBracket =
     goes (Take k.LeftBracket ∷ Read (n.Elements (with_in c)) ∷ Take k.RightBracket ∷ [])
-        (λ (first, (elements, _)). t.Array first.token.at elements)
+    (λ (first, (elements, _)). t.Array first.token.at elements)
 primary_by c l k.LeftBrace =
     goes (Take k.LeftBrace ∷ Read (n.Props (with_in c)) ∷ Take k.RightBrace ∷ []) (λ (first, (props, _)). t.Object first.token.at props)
 primary_by c l k.Slash = refuses (bad.Outside outside.RegExp)
@@ -155,7 +155,7 @@ primary_row c l = if is_async l then refuses (bad.Outside outside.Async) else pr
 abbrev pub template_rest_by : (c : Context) → Look → Class → Row (n.TemplateRest c)
 template_rest_by c l k.TemplateMiddle =
     goes (Take k.TemplateMiddle ∷ Read (n.Expr c) ∷ Read (n.TemplateRest c) ∷ [])
-        (λ (first, (hole, (more, _))). (first.token.text ∷ more.0, hole ∷ more.1))
+    (λ (first, (hole, (more, _))). (first.token.text ∷ more.0, hole ∷ more.1))
 template_rest_by c l k.TemplateTail = goes (Take k.TemplateTail ∷ []) (λ (first, _). (first.token.text ∷ [], []))
 template_rest_by c l _ = refuses (stuck l)
 

@@ -1,5 +1,5 @@
 -- Rows of the grammar: the properties of object literals (ECMA-262, 13.2.5).
-use Rattle.std.specs.Prelude.{ℕ, Bool, true, false, not, ◌&&◌, if◌then◌else◌, List, [], ◌∷◌, Option, Some, None}
+use Rattle.std.specs.Prelude.{Bool, true, false, not, ◌&&◌, if◌then◌else◌, [], ◌∷◌, None}
 use Rattle.hz_tree.specs.declared.class.Class.{Class}
 use Rattle.hz_tree.specs.declared.class.Class.TheVariants as k
 use Rattle.hz_tree.specs.declared.outside.BadKind.TheVariants as bad
@@ -12,7 +12,7 @@ use Rattle.hz_tree.specs.declared.tree.Tree.{Tree}
 use Rattle.hz_tree.specs.declared.tree.Tree.TheVariants as t
 use Rattle.hz_tree.specs.Classes.{is_name, is_word}
 use Rattle.hz_tree.specs.Look.{Look, is_async, is_paren, stuck}
-use Rattle.hz_tree.specs.Symbols.{AfterKey, valued, called, goes, refuses, Row, with_in}
+use Rattle.hz_tree.specs.Symbols.{AfterKey, valued, called, goes, refuses, Row}
 use Rattle.hz_tree.specs.Places.{place}
 use Rattle.hz_tree.specs.GrammarFunctions.{function_tree}
 use Rattle.hz_tree.specs.GrammarPrimaries.{number_value, has_octal}
@@ -43,30 +43,30 @@ property key (called function) = t.Method (place key) key function
 abbrev pub plain_prop_row : (c : Context) → Look → Row (n.Prop c)
 plain_prop_row c l =
     if is_name l.one && (not (is_colon l.two) && not (is_paren l.two)) then
-        goes (Take k.Name ∷ Read n.ShorthandEnd ∷ []) (λ (name, _). t.Shorthand name.token.at name.token.text)
+    goes (Take k.Name ∷ Read n.ShorthandEnd ∷ []) (λ (name, _). t.Shorthand name.token.at name.token.text)
     else goes (Read (n.Key c) ∷ Read (n.KeyRest c) ∷ []) (λ (key, (more, _)). property key more)
 
 abbrev pub getter_row : (c : Context) → Look → (keyed : Bool) → Row (n.Prop c)
 getter_row c l true =
     goes (Take k.Get ∷ Read (n.Key c) ∷ Open kind.Method ∷ Take k.LeftParen ∷ Take k.RightParen ∷ Read (n.Body false) ∷ Close ∷ [])
-        (λ (first, (key, (at, (_, (_, (body, (end, _))))))).
-            t.Getter first.token.at key (function_tree at end kind.Method None ([], None) body))
+    (λ (first, (key, (at, (_, (_, (body, (end, _))))))).
+    t.Getter first.token.at key (function_tree at end kind.Method None ([], None) body))
 getter_row c l false = plain_prop_row c l
 
 abbrev pub setter_row : (c : Context) → Look → (keyed : Bool) → Row (n.Prop c)
 setter_row c l true =
     goes (Take k.Set ∷ Read (n.Key c) ∷ Open kind.Method ∷ Take k.LeftParen ∷ Read n.Bound ∷ Count ∷ Read n.ParameterEnd
-        ∷ Take k.RightParen ∷ Read (n.Body false) ∷ Close ∷ [])
-        (λ (first, (key, (at, (_, (bound, (_, (_, (_, (body, (end, _)))))))))).
-            t.Setter first.token.at key (function_tree at end kind.Method None (bound ∷ [], None) body))
+    ∷ Take k.RightParen ∷ Read (n.Body false) ∷ Close ∷ [])
+    (λ (first, (key, (at, (_, (bound, (_, (_, (_, (body, (end, _)))))))))).
+    t.Setter first.token.at key (function_tree at end kind.Method None (bound ∷ [], None) body))
 setter_row c l false = plain_prop_row c l
 
 abbrev pub prop_by : (c : Context) → Look → Class → Row (n.Prop c)
 prop_by c l k.Ellipsis = goes (Take k.Ellipsis ∷ Read (n.Assign c) ∷ []) (λ (first, (value, _)). t.Spread first.token.at value)
 prop_by c l k.Star =
     goes (Take k.Star ∷ Read (n.Key c) ∷ Open kind.Generator ∷ Read n.Params ∷ Read (n.Body true) ∷ Close ∷ [])
-        (λ (first, (key, (at, (params, (body, (end, _)))))).
-            t.Method first.token.at key (function_tree at end kind.Generator None params body))
+    (λ (first, (key, (at, (params, (body, (end, _)))))).
+    t.Method first.token.at key (function_tree at end kind.Generator None params body))
 prop_by c l k.Get = getter_row c l (begins_key l.two)
 prop_by c l k.Set = setter_row c l (begins_key l.two)
 prop_by c l _ = plain_prop_row c l
@@ -82,7 +82,7 @@ abbrev pub key_rest_by : (c : Context) → Look → Class → Row (n.KeyRest c)
 key_rest_by c l k.Colon = goes (Take k.Colon ∷ Read (n.Assign c) ∷ []) (λ (_, (value, _)). valued value)
 key_rest_by c l k.LeftParen =
     goes (Open kind.Method ∷ Read n.Params ∷ Read (n.Body false) ∷ Close ∷ [])
-        (λ (at, (params, (body, (end, _)))). called (function_tree at end kind.Method None params body))
+    (λ (at, (params, (body, (end, _)))). called (function_tree at end kind.Method None params body))
 key_rest_by c l _ = refuses (stuck l)
 
 abbrev pub key_rest_row : (c : Context) → Look → Row (n.KeyRest c)

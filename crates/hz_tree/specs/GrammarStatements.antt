@@ -1,19 +1,18 @@
 -- Rows of the grammar: items and statements (ECMA-262, 14 and 16).
-use Rattle.std.specs.Prelude.{ℕ, Bool, true, false, ◌&&◌, ◌||◌, if◌then◌else◌, List, [], ◌∷◌, Option, Some, None}
+use Rattle.std.specs.Prelude.{Bool, true, false, ◌&&◌, if◌then◌else◌, [], ◌∷◌, Some, None}
 use Rattle.hz_tree.specs.declared.class.Class.{Class}
 use Rattle.hz_tree.specs.declared.class.Class.TheVariants as k
 use Rattle.hz_tree.specs.declared.outside.BadKind.TheVariants as bad
 use Rattle.hz_tree.specs.declared.outside.OutsideKind.TheVariants as outside
 use Rattle.hz_tree.specs.declared.nonterminal.Context.{Context}
 use Rattle.hz_tree.specs.declared.nonterminal.Nonterminal.TheVariants as n
-use Rattle.hz_tree.specs.declared.operator.DeclarationWord.{DeclarationWord}
 use Rattle.hz_tree.specs.declared.operator.DeclarationWord.TheVariants as word
-use Rattle.hz_tree.specs.declared.symbol.Symbol.TheVariants.{Take, Read, Open, Count, Close}
+use Rattle.hz_tree.specs.declared.symbol.Symbol.TheVariants.{Take, Read, Open, Close}
 use Rattle.hz_tree.specs.declared.tree.FunctionKind.TheVariants as kind
 use Rattle.hz_tree.specs.declared.tree.Tree.TheVariants as t
 use Rattle.hz_tree.specs.Look.{Look, is_async, stuck}
 use Rattle.hz_tree.specs.Classes.{is_name}
-use Rattle.hz_tree.specs.Symbols.{goes, refuses, Row, of_script, with_in}
+use Rattle.hz_tree.specs.Symbols.{goes, refuses, Row, of_script}
 use Rattle.hz_tree.specs.Places.{place}
 use Rattle.hz_tree.specs.GrammarFunctions.{function_tree}
 
@@ -32,10 +31,10 @@ items_row c _ = goes (Read (n.Item c) ∷ Read (n.Items c) ∷ []) (λ (first, (
 abbrev pub item_row : (c : Context) → (one two : Class) → Row (n.Item c)
 item_row c k.Function k.Star =
     goes (Open kind.Generator ∷ Take k.Function ∷ Take k.Star ∷ Read n.Bound ∷ Read n.Params ∷ Read (n.Body true) ∷ Close ∷ [])
-        (λ (at, (_, (_, (name, (params, (body, (end, _))))))). t.Declaration at (function_tree at end kind.Generator (Some name) params body))
+    (λ (at, (_, (_, (name, (params, (body, (end, _))))))). t.Declaration at (function_tree at end kind.Generator (Some name) params body))
 item_row c k.Function _ =
     goes (Open kind.Function ∷ Take k.Function ∷ Read n.Bound ∷ Read n.Params ∷ Read (n.Body false) ∷ Close ∷ [])
-        (λ (at, (_, (name, (params, (body, (end, _)))))). t.Declaration at (function_tree at end kind.Function (Some name) params body))
+    (λ (at, (_, (name, (params, (body, (end, _)))))). t.Declaration at (function_tree at end kind.Function (Some name) params body))
 item_row c k.Let _ =
     goes (Take k.Let ∷ Read (n.Binds c) ∷ Read n.Semi ∷ []) (λ (first, (binds, _)). t.Lexical first.token.at word.Let binds)
 item_row c k.Const _ =
@@ -104,16 +103,16 @@ statement_by c l k.Semicolon = goes (Take k.Semicolon ∷ []) (λ (first, _). t.
 statement_by c l k.Debugger = goes (Take k.Debugger ∷ Read n.Semi ∷ []) (λ (first, _). t.Debugger first.token.at)
 statement_by c l k.If =
     goes (Take k.If ∷ Take k.LeftParen ∷ Read (n.Expr c) ∷ Take k.RightParen ∷ Read (n.Statement c) ∷ Read (n.Else c) ∷ [])
-        (λ (first, (_, (test, (_, (body, (other, _)))))). t.If first.token.at test body other)
+    (λ (first, (_, (test, (_, (body, (other, _)))))). t.If first.token.at test body other)
 statement_by c l k.Do =
     goes (Take k.Do ∷ Read (n.Statement c) ∷ Take k.While ∷ Take k.LeftParen ∷ Read (n.Expr c) ∷ Take k.RightParen ∷ Read n.LooseSemi ∷ [])
-        (λ (first, (body, (_, (_, (test, _))))). t.DoWhile first.token.at body test)
+    (λ (first, (body, (_, (_, (test, _))))). t.DoWhile first.token.at body test)
 statement_by c l k.While =
     goes (Take k.While ∷ Take k.LeftParen ∷ Read (n.Expr c) ∷ Take k.RightParen ∷ Read (n.Statement c) ∷ [])
-        (λ (first, (_, (test, (_, (body, _))))). t.While first.token.at test body)
+    (λ (first, (_, (test, (_, (body, _))))). t.While first.token.at test body)
 statement_by c l k.For =
     goes (Take k.For ∷ Read n.ForOpen ∷ Read (n.Head c) ∷ Take k.RightParen ∷ Read (n.Statement c) ∷ [])
-        (λ (first, (_, (head, (_, (body, _))))). t.For first.token.at head body)
+    (λ (first, (_, (head, (_, (body, _))))). t.For first.token.at head body)
 statement_by c l k.Continue =
     goes (Take k.Continue ∷ Read n.Label ∷ Read n.Semi ∷ []) (λ (first, (label, _)). t.Continue first.token.at label)
 statement_by c l k.Break =
@@ -123,10 +122,10 @@ statement_by c l k.Throw =
     goes (Take k.Throw ∷ Read (n.ThrowValue c) ∷ Read n.Semi ∷ []) (λ (first, (value, _)). t.Throw first.token.at value)
 statement_by c l k.Switch =
     goes (Take k.Switch ∷ Take k.LeftParen ∷ Read (n.Expr c) ∷ Take k.RightParen ∷ Take k.LeftBrace ∷ Read (n.Clauses c false) ∷ Take k.RightBrace ∷ [])
-        (λ (first, (_, (value, (_, (_, (clauses, _)))))). t.Switch first.token.at value clauses)
+    (λ (first, (_, (value, (_, (_, (clauses, _)))))). t.Switch first.token.at value clauses)
 statement_by c l k.Try =
     goes (Take k.Try ∷ Read (n.Block c) ∷ Read (n.Handlers c) ∷ [])
-        (λ (first, (block, (handlers, _))). t.Try first.token.at block handlers.0 handlers.1)
+    (λ (first, (block, (handlers, _))). t.Try first.token.at block handlers.0 handlers.1)
 statement_by c l k.Function = refuses bad.Syntax
 statement_by c l _ =
     goes (Read (n.Expr c) ∷ Read n.Semi ∷ []) (λ (value, _). t.Expression (place value) value)
@@ -140,8 +139,8 @@ abbrev pub statement_row : (c : Context) → Look → Row (n.Statement c)
 statement_row c l =
     if is_async l then refuses (bad.Outside outside.Async)
     else (if is_name l.one && is_colon l.two then
-        goes (Take k.Name ∷ Take k.Colon ∷ Read (n.Statement c) ∷ [])
-            (λ (name, (_, (body, _))). t.Label name.token.at name.token.text body)
+    goes (Take k.Name ∷ Take k.Colon ∷ Read (n.Statement c) ∷ [])
+    (λ (name, (_, (body, _))). t.Label name.token.at name.token.text body)
     else statement_by c l l.one)
 
 abbrev pub else_row : (c : Context) → Class → Row (n.Else c)
@@ -181,10 +180,10 @@ throw_value_row c l = throw_value_by c l l.one_newline
 abbrev pub clauses_row : (c : Context) → (has_default : Bool) → Class → Row (n.Clauses c has_default)
 clauses_row c has_default k.Case =
     goes (Take k.Case ∷ Read (n.Expr c) ∷ Take k.Colon ∷ Read (n.Items c) ∷ Read (n.Clauses c has_default) ∷ [])
-        (λ (first, (value, (_, (items, (more, _))))). t.Case first.token.at value items ∷ more)
+    (λ (first, (value, (_, (items, (more, _))))). t.Case first.token.at value items ∷ more)
 clauses_row c false k.Default =
     goes (Take k.Default ∷ Take k.Colon ∷ Read (n.Items c) ∷ Read (n.Clauses c true) ∷ [])
-        (λ (first, (_, (items, (more, _)))). t.Default first.token.at items ∷ more)
+    (λ (first, (_, (items, (more, _)))). t.Default first.token.at items ∷ more)
 clauses_row c has_default _ = goes [] (λ _. [])
 
 abbrev pub handlers_by : (c : Context) → Look → Class → Row (n.Handlers c)

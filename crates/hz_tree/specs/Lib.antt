@@ -24,3 +24,4 @@ pub mod Refusals
 pub mod Shown
 pub mod Stack
 pub mod Events
+pub mod Drafts

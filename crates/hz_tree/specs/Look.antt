@@ -1,5 +1,5 @@
 -- What the grammar sees of the tokens that are left: their classes, and what it tests before it takes a rule.
-use Rattle.std.specs.Prelude.{ℕ, ◌+◌, Bool, true, false, not, ◌&&◌, ◌||◌, if◌then◌else◌, List, [], ◌∷◌, length, map, Option, Some, None}
+use Rattle.std.specs.Prelude.{ℕ, ◌+◌, Bool, true, false, not, ◌&&◌, ◌||◌, List, [], ◌∷◌, length, map, Some, None}
 use Rattle.hz_tree.specs.declared.class.Class.{Class}
 use Rattle.hz_tree.specs.declared.class.Class.TheVariants as k
 use Rattle.hz_tree.specs.declared.class.Bracket.{Bracket}
@@ -17,8 +17,8 @@ use Rattle.hz_tree.specs.Classes.{class_of, is_name, bracketing, still_open}
 pub record Terminal : Type 0 where
   pub token : Lexeme
   pub class : Class
-  pub behind : ℕ   -- the place at which the token before it ends
-  pub arrow : Bool -- it is a `(`, and `=>` stands behind the `)` that matches it
+  pub behind : ℕ  -- the place at which the token before it ends
+  pub arrow : Bool  -- it is a `(`, and `=>` stands behind the `)` that matches it
 
 abbrev pub is_arrow : Class → Bool
 is_arrow k.Arrow = true
@@ -49,10 +49,10 @@ terminals source = terminals_from 0 (tokens source)
 
 pub record Look : Type 0 where
   pub one : Class
-  pub one_newline : Bool -- a line ends before the first of them
+  pub one_newline : Bool  -- a line ends before the first of them
   pub two : Class
   pub two_newline : Bool
-  pub arrow : Bool       -- the first of the two that is a `(` begins the parameters of an arrow
+  pub arrow : Bool  -- the first of the two that is a `(` begins the parameters of an arrow
 
 abbrev pub first_arrow : Class → (one two : Bool) → Bool
 first_arrow k.LeftParen one two = one
@@ -64,8 +64,11 @@ look (x ∷ []) =
     record { one = x.class; one_newline = x.token.newline; two = k.End; two_newline = false; arrow = x.arrow }
 look (x ∷ y ∷ ts) =
     record {
-      one = x.class; one_newline = x.token.newline; two = y.class; two_newline = y.token.newline;
-      arrow = first_arrow x.class x.arrow y.arrow
+      one = x.class;
+      one_newline = x.token.newline;
+      two = y.class;
+      two_newline = y.token.newline;
+      arrow = first_arrow x.class x.arrow y.arrow;
     }
 
 abbrev pub is_function : Class → Bool

@@ -1,6 +1,6 @@
 -- What the grammar makes of tokens. A reading never goes back: the table has one row for a nonterminal and the next
 -- two tokens.
-use Rattle.std.specs.Prelude.{ℕ, zero, suc, ◌+◌, ◌*◌, Bool, true, false, if◌then◌else◌, List, [], ◌∷◌, ◌++◌, length}
+use Rattle.std.specs.Prelude.{ℕ, zero, suc, ◌+◌, ◌*◌, if◌then◌else◌, List, [], ◌∷◌, ◌++◌, length}
 use Rattle.hz_tree.specs.declared.class.Class.{Class}
 use Rattle.hz_tree.specs.declared.outside.BadKind.{BadKind}
 use Rattle.hz_tree.specs.declared.outside.BadKind.TheVariants as bad
@@ -16,9 +16,9 @@ use Rattle.hz_tree.specs.Grammar.{row}
 -- ---- readings
 
 pub data Reading (A : Type 0) : Type 0 where
-  Got : A → List Terminal → Reading A        -- the tokens are those that are left
-  Stuck : BadKind → List Terminal → Reading A -- at the first of these tokens
-  Deeper : Reading A                         -- the bound on the depth was too low
+  Got : A → List Terminal → Reading A  -- the tokens are those that are left
+  Stuck : BadKind → List Terminal → Reading A  -- at the first of these tokens
+  Deeper : Reading A  -- the bound on the depth was too low
 
 abbrev pub and_then : {A B : Type 0} → Reading A → (A → List Terminal → Reading B) → Reading B
 and_then (Got a ts) next = next a ts

@@ -1,5 +1,5 @@
 -- Why a source is refused, and what its functions are.
-use Rattle.std.specs.Prelude.{ℕ, Bool, true, false, not, ◌&&◌, ◌||◌, if◌then◌else◌, ◌==◌, nat_lt, List, [], ◌∷◌, length, Option, Some, None, codes}
+use Rattle.std.specs.Prelude.{ℕ, Bool, false, not, ◌||◌, if◌then◌else◌, ◌==◌, nat_lt, List, [], ◌∷◌, length, Option, Some, None, codes}
 use Rattle.std.specs.Str.{bytes_eq}
 use Rattle.std.specs.Str.Lossy.{utf8_valid_len}
 use Rattle.hz_tree.specs.declared.outside.BadKind.{BadKind}
@@ -10,7 +10,7 @@ use Rattle.hz_tree.specs.declared.refusal.Refusal.TheVariants as refusal
 use Rattle.hz_tree.specs.declared.tree.Tree.{Tree, out-Tree}
 use Rattle.hz_tree.specs.declared.tree.Tree.TheOpen.{Tree-F}
 use Rattle.hz_tree.specs.Text.{Text}
-use Rattle.hz_tree.specs.Look.{Terminal, terminals}
+use Rattle.hz_tree.specs.Look.{terminals}
 use Rattle.hz_tree.specs.Places.{Layer}
 use Rattle.hz_tree.specs.Reading.{Reading, Got, Stuck, Deeper, reads, place_ahead}
 use Rattle.hz_tree.specs.declared.index.FunctionInfo.{FunctionInfo}
@@ -78,3 +78,8 @@ functions_by source _ = []
 -- the functions of a source that is not refused
 unfoldable pub functions : Text → List FunctionInfo
 functions source = functions_by source (reads n.Script (terminals source))
+
+-- a source that is not refused, read as strict code where `strict` is true
+pub record Accepted : Type 0 where
+  pub source : Text
+  pub strict : Bool

@@ -1,5 +1,5 @@
 -- Refusals as they are printed.
-use Rattle.std.specs.Prelude.{ℕ, List, ◌++◌, codes, decimal}
+use Rattle.std.specs.Prelude.{◌++◌, codes, decimal}
 use Rattle.hz_tree.specs.declared.outside.OutsideKind.{OutsideKind}
 use Rattle.hz_tree.specs.declared.outside.OutsideKind.TheVariants as outside
 use Rattle.hz_tree.specs.declared.refusal.Refusal.{Refusal}
@@ -30,3 +30,4 @@ text_of_refusal (refusal.NotUtf8 at) = codes "NotUtf8 at " ++ decimal at
 text_of_refusal (refusal.Syntax at) = codes "Syntax at " ++ decimal at
 text_of_refusal (refusal.Outside kind at) = codes "Outside(" ++ (name_of_kind kind ++ (codes ") at " ++ decimal at))
 text_of_refusal refusal.Sloppy = codes "Sloppy"
+text_of_refusal (refusal.NotYet at) = codes "NotYet at " ++ decimal at

@@ -11,9 +11,9 @@ use Rattle.hz_tree.specs.Reading.{Reading, Got, Stuck, Deeper, Reader, read_one,
 -- ---- verdicts
 
 pub data Verdict : Type 0 where
-  Through : List Event → List Terminal → Verdict -- all symbols are read, with these events; the tokens are left
-  At : BadKind → List Terminal → Verdict         -- stuck at the first of these tokens
-  Lost : Verdict                                 -- this does not arise
+  Through : List Event → List Terminal → Verdict  -- all symbols are read, with these events; the tokens are left
+  At : BadKind → List Terminal → Verdict  -- stuck at the first of these tokens
+  Lost : Verdict  -- this does not arise
 
 abbrev pub verdict : (symbols : List Symbol) → Reading (Parts Events symbols) → Verdict
 verdict symbols (Got parts rest) = Through (told symbols parts) rest

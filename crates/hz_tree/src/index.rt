@@ -1,7 +1,6 @@
+use crate::tree::FunctionKind;
 use std::alloc::{AllocError, Global};
 use std::marker::Model;
-
-use crate::tree::FunctionKind;
 
 /// What is known of a function before it is compiled.
 #[derive(Clone, Copy, Debug, PartialEq, Eq)]
@@ -39,7 +38,7 @@ impl Model for FunctionInfos {
 }
 
 impl FunctionInfos {
-    ghost use Rattle.std.specs.Prelude.{◌≡◌, ◌<◌, [], ◌∷◌, ◌++◌, length, slice_get, slice_set, OnOk, OnErr};
+    ghost use Rattle.std.specs.Prelude.{◌≡◌, ◌<◌, [], ◌∷◌, ◌++◌, length, slice_get, slice_set, Some, OnOk, OnErr};
     ghost use Rattle.std.specs.Option.{option_copied};
 
     pub fn new(alloc: Global) -> FunctionInfos
@@ -63,6 +62,14 @@ impl FunctionInfos {
         self.items.get(k as usize)
     }
 
+    /// The function with this number.
+    pub fn at(&self, k: u32) -> &FunctionInfo
+        requires { k < length self.now }
+        ensures { slice_get self.now k ≡ Some result.now }
+    {
+        &self.items[k as usize]
+    }
+
     /// Adds a function at the end. After a fault the list is as before; a list of 4294967295 functions is full.
     pub fn push(&mut self, info: FunctionInfo) -> Result<(), AllocError>
         ensures ok { OnOk result (self.new ≡ self.old ++ info ∷ []) }
@@ -81,5 +88,68 @@ impl FunctionInfos {
         ensures { self.new ≡ slice_set self.old k info }
     {
         self.items[k as usize] = info;
+    }
+}
+
+/// A source that is not refused, and what is known of its functions. Function 0 is the script.
+#[derive(Debug, Drop)]
+pub struct Index<'a> {
+    source: &'a [u8],
+    strict: bool,
+    functions: FunctionInfos,
+}
+
+impl<'a> Model for Index<'a> {
+    ghost use Rattle.std.specs.Prelude.{◌≡◌, None};
+    ghost use Rattle.hz_tree.specs.Refusals.{Accepted, refusal_of, functions as functions_in};
+
+    ghost Value = { Accepted };
+
+    ghost view = { λ i. record { source = i.source.now; strict = i.strict } };
+
+    ghost invariant = { λ i. (refusal_of i.source.now i.strict ≡ None) × (i.functions ≡ functions_in i.source.now) };
+}
+
+impl<'a> Index<'a> {
+    ghost use Rattle.std.specs.Prelude.{◌≡◌, ◌<◌, length, slice_get, Some, None};
+    ghost use Rattle.hz_tree.specs.Refusals.{refusal_of, functions as functions_in};
+
+    /// `strict` tells that the source is read as strict code whether it says so or not.
+    pub fn new(source: &'a [u8], strict: bool, functions: FunctionInfos) -> Index<'a>
+        requires accepted { refusal_of source.now strict ≡ None }
+        requires listed { functions ≡ functions_in source.now }
+        ensures source { result.source ≡ source.now }
+        ensures strict { result.strict ≡ strict }
+    {
+        Index {
+            source,
+            strict,
+            functions,
+        }
+    }
+
+    pub fn source(&self) -> &'a [u8]
+        ensures { result.now ≡ self.now.source }
+    {
+        self.source
+    }
+
+    pub fn strict(&self) -> bool
+        ensures { result ≡ self.now.strict }
+    {
+        self.strict
+    }
+
+    pub fn count(&self) -> u32
+        ensures { result ≡ length (functions_in self.now.source) }
+    {
+        self.functions.len()
+    }
+
+    pub fn function(&self, k: u32) -> &FunctionInfo
+        requires { k < length (functions_in self.now.source) }
+        ensures { slice_get (functions_in self.now.source) k ≡ Some result.now }
+    {
+        self.functions.at(k)
     }
 }

@@ -14,12 +14,14 @@ mod operator;
 mod outside;
 mod refusal;
 mod symbol;
+#[cfg(test)]
+mod tests;
 mod token;
 mod tree;
 
 pub use class::{Bracket, Bracketing, Class};
 pub use front::{Front, Part};
-pub use index::{FunctionInfo, FunctionInfos};
+pub use index::{FunctionInfo, FunctionInfos, Index};
 pub use nonterminal::{Context, Nonterminal};
 pub use operator::{
     AssignOperator, BinaryOperator, DeclarationWord, Iteration, UnaryOperator, UpdateOperator,

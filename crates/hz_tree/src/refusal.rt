@@ -1,6 +1,5 @@
-use std::fmt;
-
 use crate::outside::OutsideKind;
+use std::fmt;
 
 /// Why a source is refused.
 #[derive(Clone, Copy, Debug, PartialEq, Eq)]
@@ -19,6 +18,9 @@ pub enum Refusal {
 
     /// It does not say that it is strict code.
     Sloppy,
+
+    /// It goes past what is built so far. This is the place, in bytes, up to which it does not.
+    NotYet(usize),
 }
 
 impl fmt::Display for Refusal {
@@ -34,6 +36,7 @@ impl fmt::Display for Refusal {
             Refusal::Syntax(at) => write!(f, "Syntax at {}", at),
             Refusal::Outside(kind, at) => write!(f, "Outside({}) at {}", kind, at),
             Refusal::Sloppy => write!(f, "Sloppy"),
+            Refusal::NotYet(at) => write!(f, "NotYet at {}", at),
         }
     }
 }

@@ -1,10 +1,8 @@
-use std::marker::Model;
-
-use sqlite_items::{Boxed, Items};
-
 use crate::operator::{
     AssignOperator, BinaryOperator, DeclarationWord, Iteration, UnaryOperator, UpdateOperator,
 };
+use sqlite_items::{Boxed, Items};
+use std::marker::Model;
 
 /// The kinds of functions. Getters and setters are methods.
 #[derive(Clone, Copy, Debug, PartialEq, Eq)]
