@@ -15,3 +15,9 @@ Takes old new (Some t) = old ≡ terminal t ∷ new
 abbrev pub TakesClass : (wanted : Class) → (old new : List grammar.Terminal) → Option Terminal → Type 0
 TakesClass wanted old new None = (takes wanted old ≡ Stuck (grammar.stuck (grammar.look old)) old) × (new ≡ old)
 TakesClass wanted old new (Some t) = takes wanted old ≡ Got (terminal t) new
+
+-- the terminals, of which the next two stand in front of the others
+abbrev pub ahead : (one two : Option Terminal) → (others : List grammar.Terminal) → List grammar.Terminal
+ahead None two others = []
+ahead (Some x) None others = terminal x ∷ []
+ahead (Some x) (Some y) others = terminal x ∷ terminal y ∷ others

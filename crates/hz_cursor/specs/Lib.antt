@@ -1,6 +1,7 @@
-pub mod Spelling
 pub mod Arrows
-pub mod Terminal
 pub mod Cursor
 pub mod Marks
+pub mod Spelling
 pub mod Tally
+pub mod Terminal
+pub mod Terminals

@@ -1,5 +1,5 @@
 -- The parentheses of a source, and what stands behind each, from left to right.
-use Rattle.std.specs.Prelude.{Bool, true, false, if◌then◌else◌, List, [], ◌∷◌, ◌++◌, drop}
+use Rattle.std.specs.Prelude.{Bool, true, false, ◌&&◌, if◌then◌else◌, List, [], ◌∷◌, ◌++◌, drop}
 use Rattle.hz_tree.specs.declared.class.Class.{Class}
 use Rattle.hz_tree.specs.declared.class.Bracket.{Bracket}
 use Rattle.hz_tree.specs.declared.class.Bracket.TheVariants.{Round, Hole}
@@ -53,7 +53,7 @@ open_behind does.Keeps opened = opened
 
 -- whether it is a `)` that closes its `(`
 abbrev pub closes_round : Bracketing → List Bracket → Bool
-closes_round (does.Closes Round) opened = innermost_is Round opened
+closes_round (does.Closes b) opened = innermost_is b opened && is_round_bracket b
 closes_round _ opened = false
 
 -- The marks of these tokens, where the token before them closed a `(` or not, and these brackets are open.

@@ -1,5 +1,5 @@
 -- The marks of tokens, one token after the other.
-use Rattle.std.specs.Prelude.{Bool, true, false, List, ◌++◌}
+use Rattle.std.specs.Prelude.{Bool, List, ◌++◌}
 use Rattle.hz_tree.specs.declared.class.Class.{Class}
 use Rattle.hz_tree.specs.declared.class.Bracket.{Bracket}
 use Rattle.hz_tree.specs.declared.class.Bracketing.{Bracketing}
@@ -9,12 +9,13 @@ use Rattle.hz_cursor.specs.declared.mark.Mark.{Mark}
 use Rattle.hz_cursor.specs.Marks.{answered, marks_at, open_behind, closes_round}
 
 pub record Tallied : Type 0 where
-  pub closed : Bool           -- the last token is a `)` that closed its `(`
-  pub opened : List Bracket   -- the innermost first
+  pub closed : Bool  -- the last token is a `)` that closed its `(`
+  pub opened : List Bracket  -- the innermost first
   pub marks : List Mark
 
+-- with what a `)` before a token has waited for
 abbrev pub closed_before : (arrow : Bool) → Tallied → Tallied
-closed_before arrow t = record { closed = false; opened = t.opened; marks = t.marks ++ answered t.closed arrow }
+closed_before arrow t = record t { marks = t.marks ++ answered t.closed arrow }
 
 abbrev pub with_bracket : Bracketing → Tallied → Tallied
 with_bracket b t =

@@ -77,35 +77,3 @@ pub fn bracketing(class: Class) -> Bracketing
         _ => Bracketing::Keeps,
     }
 }
-
-/// A token of the class `found` stands where the grammar wants one of the class `wanted`.
-pub fn fits(wanted: Class, found: Class) -> bool
-    ensures { result ≡ spec.fits wanted found }
-{
-    match wanted {
-        Class::Name => is_name(found),
-        _ => is_same(wanted, found),
-    }
-}
-
-#[tactic(auto, unfolding(hz_tree::specs::Classes::same_class))]
-fn is_same(a: Class, b: Class) -> bool
-    ensures { result ≡ spec.same_class a b }
-{
-    a == b
-}
-
-fn is_name(class: Class) -> bool
-    ensures { result ≡ spec.is_name class }
-{
-    matches!(
-        class,
-        Class::Name
-            | Class::Async
-            | Class::Await
-            | Class::Get
-            | Class::Of
-            | Class::Set
-            | Class::Target
-    )
-}

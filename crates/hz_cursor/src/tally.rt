@@ -1,3 +1,6 @@
+ghost use Rattle.std.specs.Prelude.{◌≡◌, ◌++◌, [], OnOk, reverse};
+ghost use Rattle.hz_cursor.specs.Marks.{dropped, innermost_is, is_round_bracket};
+
 use crate::class::bracketing;
 use crate::mark::Mark;
 use hz_tree::{Bracket, Bracketing, Class};
@@ -65,7 +68,6 @@ impl Tally {
     {
         if self.closed {
             self.marks.push(Mark::Closes(arrow))?;
-            self.closed = false;
         }
         Ok(())
     }
@@ -101,9 +103,6 @@ impl Tally {
     }
 }
 
-ghost use Rattle.std.specs.Prelude.{◌≡◌, ◌++◌, [], OnOk, reverse};
-ghost use Rattle.hz_cursor.specs.Marks.{dropped, innermost_is, is_round_bracket};
-
 fn is_round(bracket: Bracket) -> bool
     ensures { result ≡ is_round_bracket bracket }
 {
@@ -111,21 +110,21 @@ fn is_round(bracket: Bracket) -> bool
 }
 
 #[tactic(auto, unfolding(hz_tree::specs::Classes::same_bracket))]
-fn is_innermost(open: &Vec<Bracket>, bracket: Bracket) -> bool
-    ensures { result ≡ innermost_is bracket (reverse open.now.items) }
+fn is_innermost(opened: &Vec<Bracket>, bracket: Bracket) -> bool
+    ensures { result ≡ innermost_is bracket (reverse opened.now.items) }
 {
-    match open.last() {
+    match opened.last() {
         Some(innermost) => bracket == *innermost,
         None => false,
     }
 }
 
 /// Leaves all brackets open for good.
-fn drop_all(open: &mut Vec<Bracket>, marks: &mut Vec<Mark>) -> Result<(), Memory>
-    ensures marks { OnOk result (marks.new.items ≡ marks.old.items ++ dropped (reverse open.old.items)) }
-    ensures open { OnOk result (open.new.items ≡ []) }
+fn drop_all(opened: &mut Vec<Bracket>, marks: &mut Vec<Mark>) -> Result<(), Memory>
+    ensures marks { OnOk result (marks.new.items ≡ marks.old.items ++ dropped (reverse opened.old.items)) }
+    ensures opened { OnOk result (opened.new.items ≡ []) }
 {
-    while let Some(bracket) = open.pop() {
+    while let Some(bracket) = opened.pop() {
         if is_round(bracket) {
             marks.push(Mark::Closes(false))?;
         }

@@ -1,4 +1,5 @@
-use hz_tree::{Class, Token};
+use crate::kinds::is_name;
+use hz_tree::{BadKind, Class, OutsideKind, Token};
 
 /// A token as the grammar sees it.
 #[derive(Clone, Copy, Debug)]
@@ -29,4 +30,53 @@ pub struct Look {
 
     /// Whether the first of the two that is a `(` begins the parameters of an arrow.
     pub arrow: bool,
+}
+
+impl Look {
+    ghost use Rattle.std.specs.Prelude.{◌≡◌};
+    ghost use Rattle.hz_tree.specs.Look as grammar;
+    ghost use Rattle.hz_cursor.specs.Terminal.{seen};
+
+    /// `async`, and behind it on the same line `function`, a name, or the parameters of an arrow.
+    pub fn is_async(&self) -> bool
+        ensures { result ≡ grammar.is_async (seen self.now) }
+    {
+        matches!(self.one, Class::Async)
+            && !self.two_newline
+            && match self.two {
+                Class::Function => true,
+                Class::LeftParen => self.arrow,
+                other => is_name(other),
+            }
+    }
+
+    /// An arrow function: a name or parameters, and `=>`.
+    pub fn begins_arrow(&self) -> bool
+        ensures { result ≡ grammar.begins_arrow (seen self.now) }
+    {
+        match self.one {
+            Class::LeftParen => self.arrow,
+            other => is_name(other) && matches!(self.two, Class::Arrow),
+        }
+    }
+
+    /// Why the grammar is stuck at the first of the two, where no rule says otherwise.
+    pub fn cause(&self) -> BadKind
+        ensures { result ≡ grammar.stuck (seen self.now) }
+    {
+        match self.one {
+            Class::Class => BadKind::Outside(OutsideKind::Class),
+            Class::Import | Class::Export => BadKind::Outside(OutsideKind::Module),
+            Class::With => BadKind::Outside(OutsideKind::With),
+            Class::Super => BadKind::Outside(OutsideKind::Super),
+            Class::Async if self.is_async() => BadKind::Outside(OutsideKind::Async),
+            Class::BigInt => BadKind::Outside(OutsideKind::BigInt),
+            Class::NumberForm => BadKind::Outside(OutsideKind::NumberForm),
+            Class::PrivateName => BadKind::Outside(OutsideKind::PrivateName),
+            Class::IdentifierEscape => BadKind::Outside(OutsideKind::IdentifierEscape),
+            Class::HtmlComment => BadKind::Outside(OutsideKind::HtmlComment),
+            Class::Character => BadKind::Outside(OutsideKind::Character),
+            _ => BadKind::Syntax,
+        }
+    }
 }

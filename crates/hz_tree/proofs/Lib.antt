@@ -1,6 +1,7 @@
 pub mod TextLemmas
 pub mod TokenLemmas
 pub mod Rows
+pub mod PlaceLemmas
 pub mod GrammarRows
 pub mod FunctionRows
 pub mod Ranks
@@ -11,7 +12,6 @@ pub mod Stack
 pub mod Work
 pub mod EventLaws
 pub mod Said
-pub mod PlaceLemmas
 pub mod SaidMade
 pub mod SaidStatements
 pub mod SaidOperators

@@ -1,4 +1,4 @@
-use Rattle.std.proofs.Common.{ℕ, List, ◌==◌, ◌||◌, Bool, false, ◌≡◌, slice_index, refl, sym, ◌∙◌, arith}
+use Rattle.std.proofs.Common.{ℕ, ◌==◌, ◌||◌, Bool, false, ◌≡◌, slice_index, refl, sym, ◌∙◌, arith}
 use Rattle.std.proofs.lemmas.Bool.Decides.{nat_tests}
 use Rattle.hz_tree.specs.declared.class.Class.TheVariants as k
 use Rattle.hz_tree.specs.Classes.{words}
