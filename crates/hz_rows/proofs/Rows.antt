@@ -1,19 +1,19 @@
 -- Rows whose nonterminal carries the value that their test reads.
-use Rattle.std.proofs.Common.{◌≡◌, Bool, true, false, List, [], ◌∷◌, Result, Ok, Err, sym, subst, refl}
+use Rattle.std.proofs.Common.{◌≡◌, Bool, true, false, [], ◌∷◌, refl}
 use Rattle.hz_tree.specs.declared.class.Class.{Class}
 use Rattle.hz_tree.specs.declared.class.Class.TheVariants as k
 use Rattle.hz_tree.specs.declared.nonterminal.Context.{Context}
 use Rattle.hz_tree.specs.declared.nonterminal.Nonterminal.TheVariants as n
-use Rattle.hz_tree.specs.declared.symbol.Symbol.{Symbol}
 use Rattle.hz_tree.specs.declared.symbol.Symbol.TheVariants.{Take, Read}
-use Rattle.hz_tree.specs.Grammar.{Step, pushes, step_of}
+use Rattle.hz_tree.specs.Grammar.{pushes, step_of}
 use Rattle.hz_tree.specs.GrammarStatements.{clauses_row}
 
-pub clauses_row-default : (c : Context) (has_default : Bool) (one : Class) → one ≡ k.Default → has_default ≡ true → step_of (clauses_row c has_default one) ≡ pushes []
-clauses_row-default c has_default one p q =
-    subst (λ (o : Class). step_of (clauses_row c has_default o) ≡ pushes []) (sym p)
-    (subst (λ (h : Bool). step_of (clauses_row c h k.Default) ≡ pushes []) (sym q) refl)
+-- no second `default`
+pub clauses_row-default : (c : Context) (has_default : Bool) (one : Class) → one ≡ k.Default → has_default ≡ true
+    → step_of (clauses_row c has_default one) ≡ pushes []
+clauses_row-default c has_default one p q = rw (p, q) refl
 
 pub clauses_row-first_default : (c : Context) (has_default : Bool) (one : Class) → one ≡ k.Default → has_default ≡ false
-    → step_of (clauses_row c has_default one) ≡ pushes (Take k.Default ∷ Take k.Colon ∷ Read (n.Items c) ∷ Read (n.Clauses c true) ∷ [])
+    → step_of (clauses_row c has_default one)
+    ≡ pushes (Take k.Default ∷ Take k.Colon ∷ Read (n.Items c) ∷ Read (n.Clauses c true) ∷ [])
 clauses_row-first_default c has_default one p q = rw (p, q) refl

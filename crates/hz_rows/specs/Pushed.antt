@@ -5,8 +5,8 @@ use Rattle.hz_tree.specs.Grammar.{Step, pushes, fails}
 use Rattle.hz_rows.specs.declared.stop.Stop.{Stop}
 use Rattle.hz_rows.specs.declared.stop.Stop.TheVariants.{Memory, Refused}
 
--- The right-hand side lies on the stack, its first symbol on top; or the row's cause is the answer, and the stack is as
--- it was. Only a right-hand side takes memory.
+-- The right-hand side lies on the stack, its first symbol on top; or the row's cause is the answer, and the stack is
+-- as it was. Memory can be wanting only where there is a right-hand side, and the stack is then left open.
 abbrev pub Pushed : Step → Result (Unit {0}) Stop → (old new : List Symbol) → Type 0
 Pushed (pushes right) (Ok done) old new = new ≡ right ++ old
 Pushed (pushes right) (Err Memory) old new = Unit {0}

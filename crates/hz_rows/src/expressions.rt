@@ -1,14 +1,15 @@
-//! Expressions from the comma down to the operators.
+//! Expressions from the comma down to the operators (ECMA-262, 13.14 to 13.16 and 15.3 to 15.5).
 
 ghost use Rattle.hz_tree.specs.Grammar.{step_of};
 ghost use Rattle.hz_tree.specs.GrammarExpressions as row;
+ghost use Rattle.hz_cursor.specs.Terminal.{seen};
 ghost use Rattle.hz_rows.specs.Pushed.{Pushed};
 
 use crate::classes::is_paren;
 use crate::contexts::{of_arrow, with_in};
-use crate::look::Look;
 use crate::stack::Stack;
 use crate::stop::{Stop, stuck};
+use hz_cursor::Look;
 use hz_tree::Nonterminal::{
     ArrowBody, ArrowSign, Assign, AssignRest, Body, Bound, CondRest, ExprRest, Logical, Operators,
     Params, Power, YieldValue,
@@ -59,7 +60,7 @@ fn arrow_row(stack: &mut Stack, context: Context, parenthesised: bool) -> Result
 }
 
 pub fn arrow_sign_row(stack: &mut Stack, look: Look) -> Result<(), Stop>
-    ensures { Pushed (step_of (row.arrow_sign_row look)) result stack.old stack.new }
+    ensures { Pushed (step_of (row.arrow_sign_row (seen look))) result stack.old stack.new }
 {
     if look.one_newline {
         stuck(look)
@@ -78,7 +79,8 @@ pub fn arrow_body_row(stack: &mut Stack, context: Context, one: Class) -> Result
 }
 
 pub fn yield_value_row(stack: &mut Stack, context: Context, look: Look) -> Result<(), Stop>
-    ensures { Pushed (step_of (row.yield_value_row context look)) result stack.old stack.new }
+    ensures { Pushed (step_of (row.yield_value_row context (seen look)))
+        result stack.old stack.new }
 {
     if look.one_newline {
         return Ok(());
@@ -114,7 +116,8 @@ fn operation_row(stack: &mut Stack, context: Context) -> Result<(), Stop>
 
 /// An expression that is no arrow.
 fn assign_by(stack: &mut Stack, context: Context, one: Class) -> Result<(), Stop>
-    ensures { Pushed (step_of (row.assign_by context context.yields one)) result stack.old stack.new }
+    ensures { Pushed (step_of (row.assign_by context context.yields one))
+        result stack.old stack.new }
 {
     match one {
         Class::Yield => {
@@ -129,7 +132,7 @@ fn assign_by(stack: &mut Stack, context: Context, one: Class) -> Result<(), Stop
 }
 
 pub fn assign_row(stack: &mut Stack, context: Context, look: Look) -> Result<(), Stop>
-    ensures { Pushed (step_of (row.assign_row context look)) result stack.old stack.new }
+    ensures { Pushed (step_of (row.assign_row context (seen look))) result stack.old stack.new }
 {
     if look.begins_arrow() {
         arrow_row(stack, context, is_paren(look.one))

@@ -1,13 +1,13 @@
-//! Names, parameters and bodies of functions.
+//! Names, parameters and bodies of functions (ECMA-262, 15).
 
 ghost use Rattle.hz_tree.specs.Grammar.{step_of};
 ghost use Rattle.hz_tree.specs.GrammarFunctions as row;
 ghost use Rattle.hz_rows.specs.Pushed.{Pushed};
 
-use crate::classes::is_name;
 use crate::contexts::of_body;
 use crate::stack::Stack;
 use crate::stop::{Stop, left_out};
+use hz_cursor::is_name;
 use hz_tree::Nonterminal::{Bound, Items, MoreParameters, ParameterEnd, Parameters};
 use hz_tree::Symbol::{Count, Read, Take};
 use hz_tree::{Class, OutsideKind};

@@ -1,15 +1,16 @@
-//! The head of a `for`.
+//! The head of a `for` (ECMA-262, 14.7.4 and 14.7.5).
 
 ghost use Rattle.hz_tree.specs.Grammar.{step_of};
 ghost use Rattle.hz_tree.specs.GrammarFor as row;
+ghost use Rattle.hz_cursor.specs.Terminal.{seen};
 ghost use Rattle.hz_rows.specs.Pushed.{Pushed};
 ghost use Rattle.std.specs.Prelude.{◌≡◌};
 
 use crate::classes::{begins_unary, is_async_word, is_of, is_yield};
 use crate::contexts::without_in;
-use crate::look::Look;
 use crate::stack::Stack;
 use crate::stop::{Stop, left_out};
+use hz_cursor::Look;
 use hz_tree::Nonterminal::{
     Assign, AssignRest, Bound, CondRest, DeclaredHead, Expr, ExprRest, Initial, Left, LeftHead,
     Logical, MoreBinds, Operators, OptionalExpr, PostfixRest, PowerRest,
@@ -70,14 +71,14 @@ pub fn left_head_row(stack: &mut Stack, context: Context, one: Class) -> Result<
 
 /// An expression that is no left-hand side begins.
 fn is_no_left(context: Context, look: Look) -> bool
-    ensures { result ≡ row.is_no_left context look }
+    ensures { result ≡ row.is_no_left context (seen look) }
 {
     begins_unary(look.one) || look.begins_arrow() || (is_yield(look.one) && context.yields)
 }
 
 /// A head that begins with an expression.
 fn expr_head_row(stack: &mut Stack, context: Context, look: Look) -> Result<(), Stop>
-    ensures { Pushed (step_of (row.expr_head_row context look)) result stack.old stack.new }
+    ensures { Pushed (step_of (row.expr_head_row context (seen look))) result stack.old stack.new }
 {
     if is_async_word(look.one) && is_of(look.two) {
         left_out(OutsideKind::Async)
@@ -95,7 +96,7 @@ fn expr_head_row(stack: &mut Stack, context: Context, look: Look) -> Result<(), 
 }
 
 pub fn head_row(stack: &mut Stack, context: Context, look: Look) -> Result<(), Stop>
-    ensures { Pushed (step_of (row.head_row context look)) result stack.old stack.new }
+    ensures { Pushed (step_of (row.head_row context (seen look))) result stack.old stack.new }
 {
     match look.one {
         Class::Var => stack.push(&[Take(Class::Var), Read(Bound), Read(DeclaredHead(context))]),

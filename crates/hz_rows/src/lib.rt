@@ -1,7 +1,8 @@
 // The rows of the grammar for a reader with a stack of symbols.
 //
-// The layer above relies on `expand`: what it does to the stack, or the cause with which it refuses, is the row that
-// hz_tree's table (`specs/Grammar.antt`) has for the nonterminal and the next two tokens.
+// The layer above relies on `expand`: what it puts onto the stack, or the cause with which it refuses, is the row that
+// the table in hz_tree's `specs/Grammar.antt` has for the nonterminal and the next two tokens (`specs/Pushed.antt`).
+// The files are grouped as the table is, with one function for each nonterminal's row.
 #![tactic(auto)]
 
 mod classes;
@@ -9,7 +10,6 @@ mod contexts;
 mod expressions;
 mod functions;
 mod heads;
-mod look;
 mod operators;
 mod primaries;
 mod properties;
@@ -17,8 +17,9 @@ mod stack;
 mod statements;
 mod stop;
 mod table;
+#[cfg(test)]
+mod tests;
 
-pub use look::Look;
 pub use stack::Stack;
 pub use stop::Stop;
 pub use table::expand;

@@ -1,14 +1,15 @@
-//! Operators.
+//! Operators (ECMA-262, 13.4 to 13.13).
 
 ghost use Rattle.std.specs.Prelude.{◌≤◌};
 ghost use Rattle.hz_tree.specs.declared.operator.BinaryOperator.{BinaryOperator};
 ghost use Rattle.hz_tree.specs.Grammar.{step_of};
 ghost use Rattle.hz_tree.specs.GrammarOperators as row;
+ghost use Rattle.hz_cursor.specs.Terminal.{seen};
 ghost use Rattle.hz_rows.specs.Pushed.{Pushed};
 
-use crate::look::Look;
 use crate::stack::Stack;
 use crate::stop::Stop;
+use hz_cursor::Look;
 use hz_tree::Nonterminal::{Coalesce, Left, Operators, PostfixRest, Power, PowerRest, Unary};
 use hz_tree::Symbol::{Read, Take};
 use hz_tree::{Class, Context};
@@ -22,7 +23,9 @@ fn binary_row(
     one: Class,
 ) -> Result<(), Stop>
     requires { own ≤ 10 }
-    ensures { (operator : BinaryOperator) → Pushed (step_of (row.binary_row context level own one operator)) result stack.old stack.new }
+    ensures { (operator : BinaryOperator) →
+        Pushed (step_of (row.binary_row context level own one operator))
+        result stack.old stack.new }
 {
     if level <= own {
         stack.push(&[
@@ -137,7 +140,7 @@ pub fn unary_row(stack: &mut Stack, context: Context, one: Class) -> Result<(), 
 }
 
 pub fn postfix_rest_row(stack: &mut Stack, look: Look) -> Result<(), Stop>
-    ensures { Pushed (step_of (row.postfix_rest_row look)) result stack.old stack.new }
+    ensures { Pushed (step_of (row.postfix_rest_row (seen look))) result stack.old stack.new }
 {
     if look.one_newline {
         return Ok(());

@@ -1,14 +1,14 @@
-//! Left-hand sides, calls, primary expressions and templates.
+//! Left-hand sides, calls, primary expressions and templates (ECMA-262, 13.2 and 13.3).
 
 ghost use Rattle.hz_tree.specs.Grammar.{step_of};
 ghost use Rattle.hz_tree.specs.GrammarPrimaries as row;
+ghost use Rattle.hz_cursor.specs.Terminal.{seen};
 ghost use Rattle.hz_rows.specs.Pushed.{Pushed};
 
-use crate::classes::{is_name, is_word};
 use crate::contexts::with_in;
-use crate::look::Look;
 use crate::stack::Stack;
 use crate::stop::{Stop, left_out, stuck};
+use hz_cursor::{Look, is_name, is_word};
 use hz_tree::Nonterminal::{
     Args, Argument, Arguments, Assign, Body, Callee, Elements, Expr, Members, MoreArguments,
     MoreElements, New, NewArgs, OptionalTail, OwnName, Params, Primary, Props, Tails, TemplateRest,
@@ -64,7 +64,7 @@ pub fn optional_tail_row(stack: &mut Stack, context: Context, one: Class) -> Res
 }
 
 pub fn word_row(stack: &mut Stack, look: Look) -> Result<(), Stop>
-    ensures { Pushed (step_of (row.word_row look)) result stack.old stack.new }
+    ensures { Pushed (step_of (row.word_row (seen look))) result stack.old stack.new }
 {
     if is_word(look.one) {
         stack.push(&[Take(look.one)])
@@ -160,7 +160,8 @@ pub fn argument_row(stack: &mut Stack, context: Context, one: Class) -> Result<(
 
 /// A function expression, where `function` stands.
 fn function_expression_row(stack: &mut Stack, context: Context, two: Class) -> Result<(), Stop>
-    ensures { Pushed (step_of (row.function_expression_row context two)) result stack.old stack.new }
+    ensures { Pushed (step_of (row.function_expression_row context two))
+        result stack.old stack.new }
 {
     match two {
         Class::Star => stack.push(&[
@@ -185,7 +186,8 @@ fn function_expression_row(stack: &mut Stack, context: Context, two: Class) -> R
 
 /// A primary expression that is no async function.
 fn primary_by(stack: &mut Stack, context: Context, look: Look) -> Result<(), Stop>
-    ensures { Pushed (step_of (row.primary_by context look look.one)) result stack.old stack.new }
+    ensures { Pushed (step_of (row.primary_by context (seen look) look.one))
+        result stack.old stack.new }
 {
     match look.one {
         Class::This
@@ -229,7 +231,7 @@ fn primary_by(stack: &mut Stack, context: Context, look: Look) -> Result<(), Sto
 }
 
 pub fn primary_row(stack: &mut Stack, context: Context, look: Look) -> Result<(), Stop>
-    ensures { Pushed (step_of (row.primary_row context look)) result stack.old stack.new }
+    ensures { Pushed (step_of (row.primary_row context (seen look))) result stack.old stack.new }
 {
     if look.is_async() {
         left_out(OutsideKind::Async)
@@ -239,7 +241,8 @@ pub fn primary_row(stack: &mut Stack, context: Context, look: Look) -> Result<()
 }
 
 pub fn template_rest_row(stack: &mut Stack, context: Context, look: Look) -> Result<(), Stop>
-    ensures { Pushed (step_of (row.template_rest_row context look)) result stack.old stack.new }
+    ensures { Pushed (step_of (row.template_rest_row context (seen look)))
+        result stack.old stack.new }
 {
     match look.one {
         Class::TemplateMiddle => stack.push(&[

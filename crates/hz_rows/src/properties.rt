@@ -1,13 +1,14 @@
-//! The properties of object literals.
+//! The properties of object literals (ECMA-262, 13.2.5).
 
 ghost use Rattle.hz_tree.specs.Grammar.{step_of};
 ghost use Rattle.hz_tree.specs.GrammarProperties as row;
+ghost use Rattle.hz_cursor.specs.Terminal.{seen};
 ghost use Rattle.hz_rows.specs.Pushed.{Pushed};
 
-use crate::classes::{begins_key, is_colon, is_name, is_paren};
-use crate::look::Look;
+use crate::classes::{begins_key, is_colon, is_paren};
 use crate::stack::Stack;
 use crate::stop::{Stop, left_out, stuck};
+use hz_cursor::{Look, is_name};
 use hz_tree::Nonterminal::{
     Assign, Body, Bound, Key, KeyRest, MoreProps, ParameterEnd, Params, Prop, Props, ShorthandEnd,
     Word,
@@ -35,7 +36,7 @@ pub fn more_props_row(stack: &mut Stack, context: Context, one: Class) -> Result
 
 /// A property that is no getter, setter, generator or spread.
 fn plain_prop_row(stack: &mut Stack, context: Context, look: Look) -> Result<(), Stop>
-    ensures { Pushed (step_of (row.plain_prop_row context look)) result stack.old stack.new }
+    ensures { Pushed (step_of (row.plain_prop_row context (seen look))) result stack.old stack.new }
 {
     if is_name(look.one) && !is_colon(look.two) && !is_paren(look.two) {
         stack.push(&[Take(Class::Name), Read(ShorthandEnd)])
@@ -46,7 +47,8 @@ fn plain_prop_row(stack: &mut Stack, context: Context, look: Look) -> Result<(),
 
 /// A getter, or another property whose name is `get`.
 fn getter_row(stack: &mut Stack, context: Context, look: Look) -> Result<(), Stop>
-    ensures { Pushed (step_of (row.getter_row context look (row.begins_key look.two))) result stack.old stack.new }
+    ensures { Pushed (step_of (row.getter_row context (seen look) (row.begins_key look.two)))
+        result stack.old stack.new }
 {
     if begins_key(look.two) {
         stack.push(&[
@@ -65,7 +67,8 @@ fn getter_row(stack: &mut Stack, context: Context, look: Look) -> Result<(), Sto
 
 /// A setter, or another property whose name is `set`.
 fn setter_row(stack: &mut Stack, context: Context, look: Look) -> Result<(), Stop>
-    ensures { Pushed (step_of (row.setter_row context look (row.begins_key look.two))) result stack.old stack.new }
+    ensures { Pushed (step_of (row.setter_row context (seen look) (row.begins_key look.two)))
+        result stack.old stack.new }
 {
     if begins_key(look.two) {
         stack.push(&[
@@ -87,7 +90,8 @@ fn setter_row(stack: &mut Stack, context: Context, look: Look) -> Result<(), Sto
 
 /// A property that is no async method.
 fn prop_by(stack: &mut Stack, context: Context, look: Look) -> Result<(), Stop>
-    ensures { Pushed (step_of (row.prop_by context look look.one)) result stack.old stack.new }
+    ensures { Pushed (step_of (row.prop_by context (seen look) look.one))
+        result stack.old stack.new }
 {
     match look.one {
         Class::Ellipsis => stack.push(&[Take(Class::Ellipsis), Read(Assign(context))]),
@@ -106,7 +110,7 @@ fn prop_by(stack: &mut Stack, context: Context, look: Look) -> Result<(), Stop>
 }
 
 pub fn prop_row(stack: &mut Stack, context: Context, look: Look) -> Result<(), Stop>
-    ensures { Pushed (step_of (row.prop_row context look)) result stack.old stack.new }
+    ensures { Pushed (step_of (row.prop_row context (seen look))) result stack.old stack.new }
 {
     if look.is_async() {
         left_out(OutsideKind::Async)
@@ -125,7 +129,7 @@ pub fn shorthand_end_row(stack: &mut Stack, one: Class) -> Result<(), Stop>
 }
 
 pub fn key_rest_row(stack: &mut Stack, context: Context, look: Look) -> Result<(), Stop>
-    ensures { Pushed (step_of (row.key_rest_row context look)) result stack.old stack.new }
+    ensures { Pushed (step_of (row.key_rest_row context (seen look))) result stack.old stack.new }
 {
     match look.one {
         Class::Colon => stack.push(&[Take(Class::Colon), Read(Assign(context))]),
@@ -140,7 +144,7 @@ pub fn key_rest_row(stack: &mut Stack, context: Context, look: Look) -> Result<(
 }
 
 pub fn key_row(stack: &mut Stack, context: Context, look: Look) -> Result<(), Stop>
-    ensures { Pushed (step_of (row.key_row context look)) result stack.old stack.new }
+    ensures { Pushed (step_of (row.key_row context (seen look))) result stack.old stack.new }
 {
     match look.one {
         Class::Text | Class::Number | Class::OctalNumber => stack.push(&[Take(look.one)]),

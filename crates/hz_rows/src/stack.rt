@@ -3,7 +3,7 @@ use hz_tree::Symbol;
 use std::alloc::Global;
 use std::marker::Model;
 
-/// The symbols that are still to be read, the next one on top. Contracts see the list of them, the next one first.
+/// The symbols that are still to be read. Contracts see the list of them, the next one first: it is on top.
 #[derive(Debug, Drop)]
 pub struct Stack {
     symbols: Vec<Symbol>,

@@ -1,15 +1,16 @@
-//! Items and statements.
+//! Items and statements (ECMA-262, 14 and 16).
 
 ghost use Rattle.hz_tree.specs.Grammar.{step_of};
 ghost use Rattle.hz_tree.specs.GrammarStatements as row;
 ghost use Rattle.hz_tree.specs.Look.{Look as Seen};
+ghost use Rattle.hz_cursor.specs.Terminal.{seen};
 ghost use Rattle.hz_rows.specs.Pushed.{Pushed};
 
-use crate::classes::{is_colon, is_name};
+use crate::classes::is_colon;
 use crate::contexts::of_script;
-use crate::look::Look;
 use crate::stack::Stack;
 use crate::stop::{Stop, left_out, stuck};
+use hz_cursor::{Look, is_name};
 use hz_tree::Nonterminal::{
     Assign, Bind, Binds, Block, Body, Bound, CatchClause, CatchName, Clauses, Else, Expr, Finally,
     ForOpen, Handlers, Head, Initial, Item, Items, Label, LooseSemi, MoreBinds, Params,
@@ -35,7 +36,8 @@ pub fn items_row(stack: &mut Stack, context: Context, one: Class) -> Result<(), 
 
 /// A declaration of a function, where `function` stands.
 fn declaration_row(stack: &mut Stack, context: Context, two: Class) -> Result<(), Stop>
-    ensures { Pushed (step_of (row.item_row context Class.Function two)) result stack.old stack.new }
+    ensures { Pushed (step_of (row.item_row context Class.Function two))
+        result stack.old stack.new }
 {
     match two {
         Class::Star => stack.push(&[
@@ -70,7 +72,7 @@ pub fn item_row(stack: &mut Stack, context: Context, one: Class, two: Class) -> 
 }
 
 pub fn bound_row(stack: &mut Stack, look: Look) -> Result<(), Stop>
-    ensures { Pushed (step_of (row.bound_row look)) result stack.old stack.new }
+    ensures { Pushed (step_of (row.bound_row (seen look))) result stack.old stack.new }
 {
     match look.one {
         Class::LeftBracket | Class::LeftBrace => left_out(OutsideKind::Pattern),
@@ -85,7 +87,7 @@ pub fn bound_row(stack: &mut Stack, look: Look) -> Result<(), Stop>
 }
 
 pub fn semi_row(stack: &mut Stack, look: Look) -> Result<(), Stop>
-    ensures { Pushed (step_of (row.semi_row look)) result stack.old stack.new }
+    ensures { Pushed (step_of (row.semi_row (seen look))) result stack.old stack.new }
 {
     match look.one {
         Class::Semicolon => stack.push(&[Take(Class::Semicolon)]),
@@ -151,7 +153,8 @@ pub fn more_binds_row(stack: &mut Stack, context: Context, one: Class) -> Result
 }
 
 fn if_statement(stack: &mut Stack, context: Context) -> Result<(), Stop>
-    ensures { (look : Seen) → Pushed (step_of (row.statement_by context look Class.If)) result stack.old stack.new }
+    ensures { (look : Seen) →
+        Pushed (step_of (row.statement_by context look Class.If)) result stack.old stack.new }
 {
     stack.push(&[
         Take(Class::If),
@@ -164,7 +167,8 @@ fn if_statement(stack: &mut Stack, context: Context) -> Result<(), Stop>
 }
 
 fn do_statement(stack: &mut Stack, context: Context) -> Result<(), Stop>
-    ensures { (look : Seen) → Pushed (step_of (row.statement_by context look Class.Do)) result stack.old stack.new }
+    ensures { (look : Seen) →
+        Pushed (step_of (row.statement_by context look Class.Do)) result stack.old stack.new }
 {
     stack.push(&[
         Take(Class::Do),
@@ -178,7 +182,8 @@ fn do_statement(stack: &mut Stack, context: Context) -> Result<(), Stop>
 }
 
 fn while_statement(stack: &mut Stack, context: Context) -> Result<(), Stop>
-    ensures { (look : Seen) → Pushed (step_of (row.statement_by context look Class.While)) result stack.old stack.new }
+    ensures { (look : Seen) →
+        Pushed (step_of (row.statement_by context look Class.While)) result stack.old stack.new }
 {
     stack.push(&[
         Take(Class::While),
@@ -190,7 +195,8 @@ fn while_statement(stack: &mut Stack, context: Context) -> Result<(), Stop>
 }
 
 fn for_statement(stack: &mut Stack, context: Context) -> Result<(), Stop>
-    ensures { (look : Seen) → Pushed (step_of (row.statement_by context look Class.For)) result stack.old stack.new }
+    ensures { (look : Seen) →
+        Pushed (step_of (row.statement_by context look Class.For)) result stack.old stack.new }
 {
     stack.push(&[
         Take(Class::For),
@@ -212,7 +218,8 @@ fn return_statement(stack: &mut Stack, context: Context) -> Result<(), Stop>
 }
 
 fn switch_statement(stack: &mut Stack, context: Context) -> Result<(), Stop>
-    ensures { (look : Seen) → Pushed (step_of (row.statement_by context look Class.Switch)) result stack.old stack.new }
+    ensures { (look : Seen) →
+        Pushed (step_of (row.statement_by context look Class.Switch)) result stack.old stack.new }
 {
     stack.push(&[
         Take(Class::Switch),
@@ -227,7 +234,8 @@ fn switch_statement(stack: &mut Stack, context: Context) -> Result<(), Stop>
 
 /// A statement that does not begin with a label.
 fn statement_by(stack: &mut Stack, context: Context, look: Look) -> Result<(), Stop>
-    ensures { Pushed (step_of (row.statement_by context look look.one)) result stack.old stack.new }
+    ensures { Pushed (step_of (row.statement_by context (seen look) look.one))
+        result stack.old stack.new }
 {
     match look.one {
         Class::LeftBrace => stack.push(&[Read(Block(context))]),
@@ -254,7 +262,7 @@ fn statement_by(stack: &mut Stack, context: Context, look: Look) -> Result<(), S
 }
 
 pub fn statement_row(stack: &mut Stack, context: Context, look: Look) -> Result<(), Stop>
-    ensures { Pushed (step_of (row.statement_row context look)) result stack.old stack.new }
+    ensures { Pushed (step_of (row.statement_row context (seen look))) result stack.old stack.new }
 {
     if look.is_async() {
         left_out(OutsideKind::Async)
@@ -279,7 +287,7 @@ pub fn else_row(stack: &mut Stack, context: Context, one: Class) -> Result<(), S
 }
 
 pub fn label_row(stack: &mut Stack, look: Look) -> Result<(), Stop>
-    ensures { Pushed (step_of (row.label_row look)) result stack.old stack.new }
+    ensures { Pushed (step_of (row.label_row (seen look))) result stack.old stack.new }
 {
     if !look.one_newline && is_name(look.one) {
         stack.push(&[Take(Class::Name)])
@@ -289,7 +297,8 @@ pub fn label_row(stack: &mut Stack, look: Look) -> Result<(), Stop>
 }
 
 pub fn return_value_row(stack: &mut Stack, context: Context, look: Look) -> Result<(), Stop>
-    ensures { Pushed (step_of (row.return_value_row context look)) result stack.old stack.new }
+    ensures { Pushed (step_of (row.return_value_row context (seen look)))
+        result stack.old stack.new }
 {
     if look.one_newline {
         return Ok(());
@@ -301,7 +310,8 @@ pub fn return_value_row(stack: &mut Stack, context: Context, look: Look) -> Resu
 }
 
 pub fn throw_value_row(stack: &mut Stack, context: Context, look: Look) -> Result<(), Stop>
-    ensures { Pushed (step_of (row.throw_value_row context look)) result stack.old stack.new }
+    ensures { Pushed (step_of (row.throw_value_row context (seen look)))
+        result stack.old stack.new }
 {
     if look.one_newline {
         stuck(look)
@@ -316,7 +326,8 @@ pub fn clauses_row(
     has_default: bool,
     one: Class,
 ) -> Result<(), Stop>
-    ensures { Pushed (step_of (row.clauses_row context has_default one)) result stack.old stack.new }
+    ensures { Pushed (step_of (row.clauses_row context has_default one))
+        result stack.old stack.new }
 {
     match one {
         Class::Case => stack.push(&[
@@ -343,7 +354,7 @@ pub fn clauses_row(
 }
 
 pub fn handlers_row(stack: &mut Stack, context: Context, look: Look) -> Result<(), Stop>
-    ensures { Pushed (step_of (row.handlers_row context look)) result stack.old stack.new }
+    ensures { Pushed (step_of (row.handlers_row context (seen look))) result stack.old stack.new }
 {
     match look.one {
         Class::Catch => stack.push(&[Read(CatchClause(context)), Read(Finally(context))]),

@@ -1,7 +1,8 @@
 ghost use Rattle.std.specs.Prelude.{◌≡◌, Err};
 ghost use Rattle.hz_tree.specs.Look as spec;
+ghost use Rattle.hz_cursor.specs.Terminal.{seen};
 
-use crate::look::Look;
+use hz_cursor::Look;
 use hz_tree::{BadKind, OutsideKind};
 use std::alloc::AllocFailed;
 
@@ -35,7 +36,7 @@ pub fn left_out(kind: OutsideKind) -> Result<(), Stop>
 
 /// Refuses the first of the next tokens, where no rule says otherwise.
 pub fn stuck(look: Look) -> Result<(), Stop>
-    ensures { result ≡ Err (Stop.Refused (spec.stuck look)) }
+    ensures { result ≡ Err (Stop.Refused (spec.stuck (seen look))) }
 {
-    Err(Stop::Refused(look.stuck()))
+    Err(Stop::Refused(look.cause()))
 }

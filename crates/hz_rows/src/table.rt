@@ -1,17 +1,21 @@
 ghost use Rattle.hz_tree.specs.Grammar.{step};
+ghost use Rattle.hz_cursor.specs.Terminal.{seen};
 ghost use Rattle.hz_rows.specs.Pushed.{Pushed};
 
-use crate::look::Look;
 use crate::stack::Stack;
 use crate::stop::Stop;
 use crate::{expressions, functions, heads, operators, primaries, properties, statements};
+use hz_cursor::Look;
 use hz_tree::Nonterminal;
 
-/// Expands a nonterminal that was taken from the stack, where the next tokens look so: puts the right-hand side of its
-/// row onto the stack, or refuses with the row's cause and leaves the stack as it is. `Memory` comes only where there is
-/// a right-hand side, and what then lies on the stack is unspecified.
+/// Expands a nonterminal that was taken from the stack, where the next two tokens are as in `look`. The rows are
+/// those of ECMA-262's syntactic grammar (13 to 16), without the parts that `OutsideKind` lists.
+///
+/// - `Ok`: the right-hand side of the nonterminal's row lies on the stack, its first symbol on top.
+/// - `Refused`: no right-hand side begins with these tokens. The cause is the row's, and the stack is as it was.
+/// - `Memory`: there is a right-hand side, and no memory for it. What lies on the stack then is left open.
 pub fn expand(stack: &mut Stack, nonterminal: Nonterminal, look: Look) -> Result<(), Stop>
-    ensures { Pushed (step nonterminal look) result stack.old stack.new }
+    ensures { Pushed (step nonterminal (seen look)) result stack.old stack.new }
 {
     match nonterminal {
         Nonterminal::Script => statements::script_row(stack),
