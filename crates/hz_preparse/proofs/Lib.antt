@@ -3,4 +3,7 @@ pub mod TextRows
 pub mod NoText
 pub mod TextExpression
 pub mod PrologueLaw
-pub mod ExtentsLaw
+pub mod Hearing
+pub mod DraftLemmas
+pub mod Turns
+pub mod Whole

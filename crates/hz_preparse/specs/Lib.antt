@@ -1,2 +1,4 @@
 pub mod Prologue
-pub mod Extents
+pub mod Hearing
+pub mod Outcome
+pub mod Turn
