@@ -1,5 +1,5 @@
 -- Changes of one function in a list.
-use Rattle.std.proofs.Common.{◌≡◌, ℕ, zero, suc, List, [], ◌∷◌, Some, None, refl, ap, slice_get, slice_set}
+use Rattle.std.proofs.Common.{◌≡◌, ℕ, zero, suc, List, [], ◌∷◌, Some, None, refl, ap, sym, ◌∙◌, slice_get, slice_set}
 use Rattle.hz_tree.specs.declared.index.FunctionInfo.{FunctionInfo}
 use Rattle.hz_tree.specs.Drafts.{change}
 
@@ -13,3 +13,10 @@ pub change-past : (k : ℕ) (f : FunctionInfo → FunctionInfo) (xs : List Funct
 change-past k f [] h = refl
 change-past zero f (y ∷ xs) h = cc
 change-past (suc k) f (y ∷ xs) h = ap (λ zs. y ∷ zs) (change-past k f xs h)
+
+pub changed_some : (k : ℕ) (f : FunctionInfo → FunctionInfo) (xs new : List FunctionInfo) (x y : FunctionInfo) → Some x ≡ slice_get xs k
+    → new ≡ slice_set xs k y → y ≡ f x → new ≡ change k f xs
+changed_some k f xs new x y found set is = set ∙ ap (slice_set xs k) is ∙ sym (change-slice_set k f xs x (sym found))
+
+pub changed_none : (k : ℕ) (f : FunctionInfo → FunctionInfo) (xs : List FunctionInfo) → None ≡ slice_get xs k → xs ≡ change k f xs
+changed_none k f xs past = sym (change-past k f xs (sym past))

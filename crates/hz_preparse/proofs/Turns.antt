@@ -15,11 +15,11 @@ use Rattle.hz_tree.specs.Refusals.{refusal_at}
 use Rattle.hz_tree.specs.Stack.{Verdict, Through, At, Lost, ends, before, work}
 use Rattle.hz_tree.proofs.Stack.{ends_pushes, ends_fails, ends_take, ends_other, ends_no_token, ends_open, ends_count, ends_close}
 use Rattle.hz_tree.proofs.Work.{work_pushes, work_take, work_open, work_count, work_close}
-use Rattle.hz_rows.specs.declared.stop.Stop.{Stop}
 use Rattle.hz_rows.specs.declared.stop.Stop.TheVariants as stop
 use Rattle.hz_rows.specs.Pushed.{Pushed}
 use Rattle.hz_preparse.specs.Outcome.{Outcome, outcome, refused}
-use Rattle.hz_preparse.specs.Turn.{Goes}
+use Rattle.hz_preparse.specs.declared.fault.PreFault.TheVariants.{Refused, Memory}
+use Rattle.hz_preparse.specs.Turn.{Done, TakesToken, Expands, Goes, Turns}
 
 -- ---- tokens
 
@@ -80,3 +80,33 @@ close_goes xs ts d new h = record {
   same = ap (λ e. outcome e (ends xs ts)) h ∙ sym (ap (outcome d) (ends_close xs ts) ∙ happened d (Closed (end_behind ts)) (ends xs ts));
   less = work_close xs ts
 }
+
+-- ---- expanding
+
+pub pushed_ok : (st : Step) (done : Unit {0}) (old new : List Symbol) → Pushed st (Ok done) old new → (right : List Symbol) × ((st ≡ pushes right) × (new ≡ right ++ old))
+pushed_ok (pushes right) done old new h = (right, (refl, h))
+pushed_ok (fails cause) done old new h = absurd h
+
+pub pushed_refused : (st : Step) (found : BadKind) (old new : List Symbol) → Pushed st (Err (stop.Refused found)) old new → st ≡ fails found
+pushed_refused (pushes right) found old new h = absurd h
+pushed_refused (fails cause) found old new h = ap fails (sym h.0)
+
+-- ---- turns
+
+pub take_turns : (symbol : Symbol) (wanted : Class) (r : Done) (xs : List Symbol) (ts new : List Terminal) (d : Draft) → symbol ≡ s.Take wanted
+    → TakesToken wanted ts r new → Turns symbol xs ts d r xs new d
+take_turns symbol wanted r xs ts new d e h = subst (λ x. Turns x xs ts d r xs new d) (sym e) (go r h)
+  where
+    go : (r : Done) → TakesToken wanted ts r new → Turns (s.Take wanted) xs ts d r xs new d
+    go (Ok done) h = take_goes wanted xs ts new h.0 d h.1
+    go (Err (Refused refusal)) h = take_refuses wanted xs ts h.0 d h.1.0 ∙ ap refused (sym h.1.1)
+    go (Err Memory) h = tt
+
+pub read_turns : (symbol : Symbol) (m : Nonterminal) (r : Done) (xs new : List Symbol) (ts : List Terminal) (d : Draft) → symbol ≡ s.Read m
+    → Expands m ts xs r new → Turns symbol xs ts d r new ts d
+read_turns symbol m r xs new ts d e h = subst (λ x. Turns x xs ts d r new ts d) (sym e) (go r h)
+  where
+    go : (r : Done) → Expands m ts xs r new → Turns (s.Read m) xs ts d r new ts d
+    go (Ok done) h = read_goes m h.0 xs new ts d h.1.0 h.1.1
+    go (Err (Refused refusal)) h = read_refuses m h.0 xs ts d h.1.0 ∙ ap refused (sym h.1.1)
+    go (Err Memory) h = tt

@@ -25,6 +25,7 @@ pub enum Heard {
 }
 
 /// Whether one of the directives in front of the source says "use strict" (ECMA-262, 11.2.1).
+#[tactic(auto, unfolding(hz_tree::specs::Look::terminals))]
 pub fn says_strict(alloc: Global, source: &[u8]) -> Result<bool, AllocError>
     ensures { IfOk result (λ strict. strict ≡ prologue (terminals source.now)) }
 {

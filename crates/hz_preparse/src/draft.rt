@@ -96,23 +96,18 @@ impl Draft {
 fn count_parameter(functions: &mut FunctionInfos, number: u32)
     ensures { functions.new ≡ change number counted functions.old }
 {
-    let Some(known) = functions.get(number).copied() else {
-        return;
-    };
-    functions.set(
-        number,
-        FunctionInfo {
-            length: known.length.saturating_add(1),
-            ..known
-        },
-    );
+    if let Some(known) = functions.get(number) {
+        let length = known.length.saturating_add(1);
+        let more = FunctionInfo { length, ..*known };
+        functions.set(number, more);
+    }
 }
 
 fn end_function(functions: &mut FunctionInfos, number: u32, end: usize)
     ensures { functions.new ≡ change number (ended end) functions.old }
 {
-    let Some(known) = functions.get(number).copied() else {
-        return;
-    };
-    functions.set(number, FunctionInfo { end, ..known });
+    if let Some(known) = functions.get(number) {
+        let whole = FunctionInfo { end, ..*known };
+        functions.set(number, whole);
+    }
 }

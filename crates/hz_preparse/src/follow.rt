@@ -10,16 +10,55 @@ use hz_tree::Class;
 pub fn goes_on(class: Class, newline: bool) -> bool
     ensures { result ≡ spec.goes_on_by newline class }
 {
-    match class {
-        Class::PlusPlus | Class::MinusMinus => !newline,
+    begins_tail(class)
+        || (!newline && is_update(class))
+        || is_power(class)
+        || is_binary(class)
+        || is_logical(class)
+        || is_question(class)
+        || is_assignment(class)
+        || is_comma(class)
+}
+
+fn begins_tail(class: Class) -> bool
+    ensures { result ≡ spec.begins_tail class }
+{
+    matches!(
+        class,
         Class::Dot
         | Class::LeftBracket
         | Class::LeftParen
         | Class::OptionalDot
         | Class::TemplateWhole
         | Class::TemplateHead
-        | Class::StarStar
-        | Class::Or
+    )
+}
+
+fn is_update(class: Class) -> bool
+    ensures { result ≡ spec.is_update class }
+{
+    matches!(
+        class,
+        Class::PlusPlus
+        | Class::MinusMinus
+    )
+}
+
+fn is_power(class: Class) -> bool
+    ensures { result ≡ spec.is_power class }
+{
+    matches!(
+        class,
+        Class::StarStar
+    )
+}
+
+fn is_binary(class: Class) -> bool
+    ensures { result ≡ spec.is_binary class }
+{
+    matches!(
+        class,
+        Class::Or
         | Class::Xor
         | Class::And
         | Class::Equal
@@ -40,11 +79,35 @@ pub fn goes_on(class: Class, newline: bool) -> bool
         | Class::Star
         | Class::Slash
         | Class::Percent
-        | Class::OrOr
+    )
+}
+
+fn is_logical(class: Class) -> bool
+    ensures { result ≡ spec.is_logical class }
+{
+    matches!(
+        class,
+        Class::OrOr
         | Class::AndAnd
         | Class::Nullish
-        | Class::Question
-        | Class::Assign
+    )
+}
+
+fn is_question(class: Class) -> bool
+    ensures { result ≡ spec.is_question class }
+{
+    matches!(
+        class,
+        Class::Question
+    )
+}
+
+fn is_assignment(class: Class) -> bool
+    ensures { result ≡ spec.is_assignment class }
+{
+    matches!(
+        class,
+        Class::Assign
         | Class::PlusAssign
         | Class::MinusAssign
         | Class::StarAssign
@@ -60,7 +123,14 @@ pub fn goes_on(class: Class, newline: bool) -> bool
         | Class::AndAndAssign
         | Class::OrOrAssign
         | Class::NullishAssign
-        | Class::Comma => true,
-        _ => false,
-    }
+    )
+}
+
+fn is_comma(class: Class) -> bool
+    ensures { result ≡ spec.is_comma class }
+{
+    matches!(
+        class,
+        Class::Comma
+    )
 }

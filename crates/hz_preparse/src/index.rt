@@ -1,6 +1,8 @@
-ghost use Rattle.std.specs.Prelude.{◌≡◌, Bool, IfOk, IfErr, OnOk, None};
+ghost use Rattle.std.specs.Prelude.{◌≡◌, ◌||◌, Bool, IfOk, IfErr, OnOk, None};
+ghost use Rattle.hz_tree.specs.Look.{terminals};
 ghost use Rattle.hz_tree.specs.Refusals as spec;
 ghost use Rattle.hz_preparse.specs.Outcome.{Refuses, IsText, Reads};
+ghost use Rattle.hz_preparse.specs.Prologue.{prologue};
 
 use crate::directives::says_strict;
 use crate::draft::Draft;
@@ -8,7 +10,7 @@ use crate::fault::PreFault;
 use crate::recogniser::recognise;
 use hz_cursor::Cursor;
 use hz_tree::{FunctionInfos, Index, Refusal};
-use std::alloc::Global;
+use std::alloc::{AllocError, Global};
 
 const MAX_LENGTH: usize = 16_777_215;
 
@@ -28,7 +30,7 @@ pub fn preparse<'a>(alloc: Global, source: &'a [u8], strict: bool) -> Result<Ind
 {
     check_text(source)?;
     let functions = functions_of(alloc, source)?;
-    if !strict && !says_strict(alloc, source)? {
+    if !is_strict(alloc, source, strict)? {
         return Err(PreFault::Refused(Refusal::Sloppy));
     }
     Ok(Index::new(source, strict, functions))
@@ -58,4 +60,13 @@ fn functions_of(alloc: Global, source: &[u8]) -> Result<FunctionInfos, PreFault>
     let draft = Draft::new(alloc, source)?;
     let read = recognise(alloc, &mut cursor, draft)?;
     Ok(read.into_functions())
+}
+
+fn is_strict(alloc: Global, source: &[u8], strict: bool) -> Result<bool, AllocError>
+    ensures { IfOk result (λ answer. answer ≡ (strict || prologue (terminals source.now))) }
+{
+    if strict {
+        return Ok(true);
+    }
+    says_strict(alloc, source)
 }

@@ -40,8 +40,8 @@ fn turn(stack: &mut Stack, cursor: &mut Cursor<'_>, draft: &mut Draft, symbol: S
     ensures { Turns symbol stack.old cursor.old draft.old result stack.new cursor.new draft.new }
 {
     match symbol {
-        Symbol::Take(wanted) => take(cursor, wanted)?,
-        Symbol::Read(nonterminal) => read(stack, cursor, nonterminal)?,
+        Symbol::Take(wanted) => return take(cursor, wanted),
+        Symbol::Read(nonterminal) => return read(stack, cursor, nonterminal),
         Symbol::Open(kind) => draft.open(kind, cursor.place())?,
         Symbol::Count => draft.count(),
         Symbol::Close => draft.close(cursor.behind()),
