@@ -1,16 +1,18 @@
-use Rattle.std.proofs.Common.{rules, ◌≡◌, Bool, IfOk, IfErr, OnOk, None, ℕ, ◌+◌, ◌-◌, ◌*◌, ◌<◌, ◌≤◌, length, ◌/◌, ◌%◌, true, false, nat_eq, nat_lt, List, [], ◌∷◌, ◌++◌, slice_index_or, slice_set, bit_and, bit_or, Fits, w8, w32, w64, Bor, MutBor}
-use Rattle.hz_tree.specs.Refusals as spec
-use Rattle.hz_preparse.specs.Outcome.{Refuses, IsText, Reads}
+use Rattle.std.proofs.lemmas.Result.{err_from_is_err_and}
+use Rattle.hz_preparse.proofs.Whole.{accepts, sloppy}
 use Rattle.hz_preparse.proofs.index.preparse.Goals as goal
 
--- src/index.rt:29:5
 pub returns-in_err-check_text-clause-refused : goal.returns-in_err-check_text-clause-refused
-returns-in_err-check_text-clause-refused c = ?
+returns-in_err-check_text-clause-refused c =
+    let p = err_from_is_err_and c.from_residual.result c.from_residual.ensures.1 in
+    rw (p.1, p.2) (c.in_err-check_text.ensures.refused c.args.strict)
 
--- src/index.rt:32:9
 pub returns-then-not-branch-clause-refused : goal.returns-then-not-branch-clause-refused
-returns-then-not-branch-clause-refused c = ?
+returns-then-not-branch-clause-refused c =
+    sloppy c.args.source.now c.args.strict c.in_ok-is_strict.field-0 c.in_ok-functions.functions c.in_ok-check_text.ensures.text c.in_ok-functions.ensures
+        c.in_ok-is_strict.ensures c.if-not-branch.true
 
--- src/index.rt:34:8
 pub new-requires-clause-accepted : goal.new-requires-clause-accepted
-new-requires-clause-accepted c = ?
+new-requires-clause-accepted c =
+    accepts c.args.source.now c.args.strict c.in_ok-is_strict.field-0 c.in_ok-functions.functions c.in_ok-check_text.ensures.text c.in_ok-functions.ensures
+        c.in_ok-is_strict.ensures c.if-not-branch.false
