@@ -1,0 +1,9 @@
+pub mod Readings
+pub mod TextRows
+pub mod NoText
+pub mod TextExpression
+pub mod PrologueLaw
+pub mod Hearing
+pub mod DraftLemmas
+pub mod Turns
+pub mod Whole

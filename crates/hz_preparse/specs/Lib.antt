@@ -1,0 +1,4 @@
+pub mod Prologue
+pub mod Hearing
+pub mod Outcome
+pub mod Turn

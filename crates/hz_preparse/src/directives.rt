@@ -1,0 +1,78 @@
+//! Whether a source says of itself that it is strict code.
+
+ghost use Rattle.std.specs.Prelude.{◌≡◌, IfOk};
+ghost use Rattle.hz_tree.specs.Look.{terminals};
+ghost use Rattle.hz_tree.specs.Refusals as refusals;
+ghost use Rattle.hz_tree.specs.Tokens.{lexeme};
+ghost use Rattle.hz_preparse.specs.Hearing.{Hears, item_heard};
+ghost use Rattle.hz_preparse.specs.Prologue.{prologue};
+
+use crate::follow::goes_on;
+use hz_cursor::class_of;
+use hz_scan::{Braces, Scanner};
+use hz_tree::{Class, Token};
+use std::alloc::{AllocError, Global};
+
+/// What the next token tells of the directives.
+#[derive(Clone, Copy, Debug)]
+pub enum Heard {
+    /// Whether the source says that it is strict code.
+    Decided(bool),
+
+    /// The next token tells. A text may stand before it: whether that is a directive is still open, and this tells
+    /// whether it says "use strict".
+    Open(Option<bool>),
+}
+
+/// Whether one of the directives in front of the source says "use strict" (ECMA-262, 11.2.1).
+#[tactic(auto, unfolding(hz_tree::specs::Look::terminals))]
+pub fn says_strict(alloc: Global, source: &[u8]) -> Result<bool, AllocError>
+    ensures { IfOk result (λ strict. strict ≡ prologue (terminals source.now)) }
+{
+    let mut scanner = Scanner::new(source);
+    let mut braces = Braces::new(alloc);
+    let mut pending = None;
+    'tokens: loop {
+        let token = scanner.next(braces.in_hole());
+        match hear(pending, &token) {
+            Heard::Decided(strict) => return Ok(strict),
+            Heard::Open(now) => pending = now,
+        }
+        braces.follow(&token)?;
+    }
+}
+
+fn hear(pending: Option<bool>, token: &Token<'_>) -> Heard
+    ensures { Hears pending (lexeme token.now) result }
+{
+    let class = class_of(token);
+    match pending {
+        Some(strict) => {
+            if goes_on(class, token.newline) {
+                return Heard::Decided(false);
+            }
+            if strict {
+                return Heard::Decided(true);
+            }
+            hear_item(class, true, token.text)
+        }
+        None => hear_item(class, false, token.text),
+    }
+}
+
+/// A token that does not go on with a directive. `ended` tells that it may be the semicolon of one.
+fn hear_item(class: Class, ended: bool, text: &[u8]) -> Heard
+    ensures { result ≡ item_heard class ended text.now }
+{
+    match class {
+        Class::Text => Heard::Open(Some(is_use_strict(text))),
+        Class::Semicolon if ended => Heard::Open(None),
+        _ => Heard::Decided(false),
+    }
+}
+
+fn is_use_strict(text: &[u8]) -> bool
+    ensures { result ≡ refusals.is_use_strict text.now }
+{
+    matches!(text, b"\"use strict\"" | b"'use strict'")
+}

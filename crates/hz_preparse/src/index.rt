@@ -1,0 +1,72 @@
+ghost use Rattle.std.specs.Prelude.{◌≡◌, ◌||◌, Bool, IfOk, IfErr, OnOk, None};
+ghost use Rattle.hz_tree.specs.Look.{terminals};
+ghost use Rattle.hz_tree.specs.Refusals as spec;
+ghost use Rattle.hz_preparse.specs.Outcome.{Refuses, IsText, Reads};
+ghost use Rattle.hz_preparse.specs.Prologue.{prologue};
+
+use crate::directives::says_strict;
+use crate::draft::Draft;
+use crate::fault::PreFault;
+use crate::recogniser::recognise;
+use hz_cursor::Cursor;
+use hz_tree::{FunctionInfos, Index, Refusal};
+use std::alloc::{AllocError, Global};
+
+const MAX_LENGTH: usize = 16_777_215;
+
+/// Reads a source, ECMA-262's Script in strict code without what `OutsideKind` lists, and gives its index. `strict`
+/// tells that it is strict code whether it says so or not.
+///
+/// - `Ok`: the source is not refused. The index holds the source, the flag and the source's functions.
+/// - `Refused`: the source is refused, and this is the reason. The first that holds counts: it is too long, it is no
+///   UTF-8, the grammar is stuck in it, or it is not strict code. Places are counted in bytes.
+/// - `Memory`: memory ran out. This can come in the place of either.
+///
+/// The time is linear in the source's length. A construct within others takes memory and no recursion.
+pub fn preparse<'a>(alloc: Global, source: &'a [u8], strict: bool) -> Result<Index<'a>, PreFault>
+    ensures index { IfOk result (λ index. index ≡ record { source = source.now; strict = strict }) }
+    ensures accepted { OnOk result (spec.refusal_of source.now strict ≡ None) }
+    ensures refused { IfErr result (Refuses (spec.refusal_of source.now strict)) }
+{
+    check_text(source)?;
+    let functions = functions_of(alloc, source)?;
+    if !is_strict(alloc, source, strict)? {
+        return Err(PreFault::Refused(Refusal::Sloppy));
+    }
+    Ok(Index::new(source, strict, functions))
+}
+
+/// Whether the grammar can read the bytes at all.
+#[tactic(auto, unfolding(hz_tree::specs::Refusals::refusal_of))]
+fn check_text(source: &[u8]) -> Result<(), PreFault>
+    ensures text { OnOk result (IsText source.now) }
+    ensures refused { IfErr result (λ fault. (strict : Bool) → Refuses (spec.refusal_of source.now strict) fault) }
+{
+    if source.len() > MAX_LENGTH {
+        return Err(PreFault::Refused(Refusal::TooLong));
+    }
+    match str::from_utf8(source) {
+        Ok(_) => Ok(()),
+        Err(error) => Err(PreFault::Refused(Refusal::NotUtf8(error.valid_up_to()))),
+    }
+}
+
+/// The functions of a text that the grammar reads.
+fn functions_of(alloc: Global, source: &[u8]) -> Result<FunctionInfos, PreFault>
+    requires { IsText source.now }
+    ensures { Reads source.now result }
+{
+    let mut cursor = Cursor::new(alloc, source)?;
+    let draft = Draft::new(alloc, source)?;
+    let read = recognise(alloc, &mut cursor, draft)?;
+    Ok(read.into_functions())
+}
+
+fn is_strict(alloc: Global, source: &[u8], strict: bool) -> Result<bool, AllocError>
+    ensures { IfOk result (λ answer. answer ≡ (strict || prologue (terminals source.now))) }
+{
+    if strict {
+        return Ok(true);
+    }
+    says_strict(alloc, source)
+}
