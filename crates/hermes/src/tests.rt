@@ -3,7 +3,7 @@
 use crate::status::Status;
 use crate::uncounted;
 use hz_io::{Files, MemFiles, MemSink, MemSource};
-use hz_tree::Refusal;
+use hz_tree::{OutsideKind, Refusal};
 use hz_value::Left;
 use std::alloc::Global;
 use std::marker::Brand;
@@ -71,10 +71,10 @@ fn assert_prints(rt: &(impl Abort + AllocGlobal), source: &[u8], out: &[u8]) -> 
 fn assert_refused(
     rt: &(impl Abort + AllocGlobal),
     source: &[u8],
-    at: usize,
+    refusal: Refusal,
     err: &[u8],
 ) -> Result<(), Fail> {
-    let status = Status::Refused(Refusal::NotYet(at));
+    let status = Status::Refused(refusal);
     assert_shown(rt, run(rt.alloc(), source, None)?, status, b"", err);
     Ok(())
 }
@@ -116,10 +116,42 @@ fn other_sources_are_refused(rt: HostRuntime) -> Result<(), Fail> {
     assert_refused(
         &rt,
         b"\"use strict\";print(1,2);",
-        20,
+        Refusal::NotYet(20),
         b"refused: NotYet at 20\n",
     )?;
-    assert_refused(&rt, b"", 0, b"refused: NotYet at 0\n")
+    assert_refused(&rt, b"", Refusal::Sloppy, b"refused: Sloppy\n")?;
+    assert_refused(
+        &rt,
+        b"\"use strict\";class A {}",
+        Refusal::Outside(OutsideKind::Class, 13),
+        b"refused: Outside(Class) at 13\n",
+    )?;
+    assert_refused(
+        &rt,
+        b"\"use strict\";print(1.5);",
+        Refusal::Outside(OutsideKind::NumberForm, 19),
+        b"refused: Outside(NumberForm) at 19\n",
+    )?;
+    assert_refused(
+        &rt,
+        b"\"use strict\";let a = 1\n++",
+        Refusal::Syntax(25),
+        b"refused: Syntax at 25\n",
+    )
+}
+
+#[test]
+fn bytes_that_are_no_text_are_refused(rt: HostRuntime) -> Result<(), Fail> {
+    let alloc = rt.alloc();
+    let words = ["run", "-strict", "a.js"];
+    let shown = run_words(alloc, &words, "a.js", b"\xFF")?;
+    let status = Status::Refused(Refusal::NotUtf8(0));
+    assert_shown(&rt, shown, status, b"", b"refused: NotUtf8 at 0\n");
+    let longer = vec![in alloc; b' '; 16_777_216]?;
+    let shown = run_words(alloc, &words, "a.js", longer.as_slice())?;
+    let status = Status::Refused(Refusal::TooLong);
+    assert_shown(&rt, shown, status, b"", b"refused: TooLong\n");
+    Ok(())
 }
 
 #[test]
@@ -130,7 +162,12 @@ fn a_source_has_at_most_4095_bytes(rt: HostRuntime) -> Result<(), Fail> {
     let lines = repeated(rt.alloc(), b"", b"7\n", 453)?;
     assert_prints(&rt, source.as_slice(), lines.as_slice())?;
     source.extend_from_slice(b" ")?;
-    assert_refused(&rt, source.as_slice(), 4095, b"refused: NotYet at 4095\n")
+    assert_refused(
+        &rt,
+        source.as_slice(),
+        Refusal::NotYet(4095),
+        b"refused: NotYet at 4095\n",
+    )
 }
 
 #[test]
@@ -142,7 +179,12 @@ fn a_text_has_at_most_254_bytes(rt: HostRuntime) -> Result<(), Fail> {
     assert_prints(&rt, source.as_slice(), line.as_slice())?;
     let mut longer = repeated(rt.alloc(), b"\"use strict\";print(\"", b"x", 255)?;
     longer.extend_from_slice(b"\");")?;
-    assert_refused(&rt, longer.as_slice(), 274, b"refused: NotYet at 274\n")
+    assert_refused(
+        &rt,
+        longer.as_slice(),
+        Refusal::NotYet(274),
+        b"refused: NotYet at 274\n",
+    )
 }
 
 #[test]
@@ -207,7 +249,8 @@ fn strict_texts_need_no_directive(rt: HostRuntime) -> Result<(), Fail> {
     let status = Status::Refused(Refusal::NotYet(0));
     assert_shown(&rt, shown, status, b"", b"refused: NotYet at 0\n");
     let shown = run_words(alloc, &["run", "a.js"], "a.js", b"print(1);")?;
-    assert_shown(&rt, shown, status, b"", b"refused: NotYet at 0\n");
+    let status = Status::Refused(Refusal::Sloppy);
+    assert_shown(&rt, shown, status, b"", b"refused: Sloppy\n");
     Ok(())
 }
 

@@ -1,0 +1,42 @@
+// Reads a file without trees some times over, as strict code, and prints how many functions it has, or why it is
+// refused: hz_preparse_bench FILE ROUNDS. The script bench/preparse measures it.
+#![tactic(auto)]
+
+use hz_preparse::{PreFault, preparse};
+use std::alloc::{AllocError, Global};
+use std::{env, fs, io};
+
+/// What the source is found to be.
+fn finding(alloc: Global, source: &[u8]) -> Result<String, AllocError> {
+    match preparse(alloc, source, true) {
+        Ok(index) => {
+            let count = index.count();
+            format!(in alloc; "{count} functions")
+        }
+        Err(PreFault::Refused(refusal)) => format!(in alloc; "refused: {refusal}"),
+        Err(PreFault::Memory) => Err(AllocError),
+    }
+}
+
+/// The number that a word on the command line says, or 1.
+fn number(word: &Option<String>) -> u32 {
+    match word {
+        Some(text) => text.parse().unwrap_or(1),
+        None => 1,
+    }
+}
+
+fn main(rt: HostRuntime) -> io::Result<()> {
+    let mut words = env::args(&rt)?;
+    let _program = words.next();
+    let Some(path) = words.next() else {
+        return Ok(());
+    };
+    let rounds = number(&words.next());
+    let source = fs::read(&rt, path.as_str())?;
+    let mut found = String::new(rt.alloc());
+    for _ in 0..rounds {
+        found = finding(rt.alloc(), source.as_slice())?;
+    }
+    println!(rt; "{found}")
+}
