@@ -29,34 +29,42 @@ begins_statement c = is_text c || is_semicolon c
 bad_begins : (cause : BadKind) → begins_statement (bad_class cause) ≡ false
 bad_begins bad.Syntax = refl
 bad_begins (bad.Outside kind) =
-    elim kind as (λ kind. begins_statement (bad_class (bad.Outside kind)) ≡ false)
-        [ outside.BigInt ↦ refl | outside.NumberForm ↦ refl | outside.PrivateName ↦ refl | outside.IdentifierEscape ↦ refl
-        | outside.HtmlComment ↦ refl | outside.Character ↦ refl | _ ↦ refl ]
+    elim kind as (λ kind. begins_statement (bad_class (bad.Outside kind)) ≡ false) [
+      | outside.BigInt ↦ refl
+      | outside.NumberForm ↦ refl
+      | outside.PrivateName ↦ refl
+      | outside.IdentifierEscape ↦ refl
+      | outside.HtmlComment ↦ refl
+      | outside.Character ↦ refl
+      | _ ↦ refl
+    ]
 
 last_begins : (kind : TokenKind) (text : Text) → begins_statement (class_by kind text) ≡ true → is_last kind ≡ false
 unfolding class_by
 last_begins kind text =
     elim kind as (λ kind. begins_statement (class_by kind text) ≡ true → is_last kind ≡ false)
-        [ token.End ↦ λ h. absurd (false_true h) | token.Bad cause ↦ λ h. absurd (false_true (sym (bad_begins cause) ∙ h)) | _ ↦ λ h. refl ]
+    [ token.End ↦ λ h. absurd (false_true h) | token.Bad cause ↦ λ h. absurd (false_true (sym (bad_begins cause) ∙ h)) | _ ↦ λ h. refl ]
 
 -- ---- a token that does not go on with a directive
 
 item_class : (ended : Bool) (t : Lexeme) (behind : ℕ) (arrow : Bool) (ts : List Terminal) (c : Class) → class_of t ≡ c
     → directs_strict ended (terminal_of t behind arrow ∷ ts)
-        ≡ (if is_text c then not (goes_on (look ts)) && (is_use_strict t.text || directs_strict true ts) else (ended && (is_semicolon c && directs_strict false ts)))
+    ≡ (if is_text c then not (goes_on (look ts)) && (is_use_strict t.text || directs_strict true ts) else (ended && (is_semicolon c && directs_strict false ts)))
 item_class ended t behind arrow ts c e =
     ap (λ c. if is_text c then not (goes_on (look ts)) && (is_use_strict t.text || directs_strict true ts) else (ended && (is_semicolon c && directs_strict false ts))) e
 
 pub item_hears : (ended : Bool) (t : Lexeme) → HearsOf (directs_strict ended) t (item_heard (class_of t) ended t.text)
 item_hears true t =
-    elim (class_of t) as (λ c. class_of t ≡ c → HearsOf (directs_strict true) t (item_heard c true t.text))
-        [ k.Text ↦ λ e. (last_begins t.kind t.text (ap begins_statement e), λ behind arrow ts. item_class true t behind arrow ts k.Text e)
-        | k.Semicolon ↦ λ e. (last_begins t.kind t.text (ap begins_statement e), λ behind arrow ts. item_class true t behind arrow ts k.Semicolon e)
-        | _ ↦ λ e behind arrow ts. item_class true t behind arrow ts _ e ] refl
+    elim (class_of t) as (λ c. class_of t ≡ c → HearsOf (directs_strict true) t (item_heard c true t.text)) [
+      | k.Text ↦ λ e. (last_begins t.kind t.text (ap begins_statement e), λ behind arrow ts. item_class true t behind arrow ts k.Text e)
+      | k.Semicolon ↦ λ e. (last_begins t.kind t.text (ap begins_statement e), λ behind arrow ts. item_class true t behind arrow ts k.Semicolon e)
+      | _ ↦ λ e behind arrow ts. item_class true t behind arrow ts _ e
+    ] refl
 item_hears false t =
-    elim (class_of t) as (λ c. class_of t ≡ c → HearsOf (directs_strict false) t (item_heard c false t.text))
-        [ k.Text ↦ λ e. (last_begins t.kind t.text (ap begins_statement e), λ behind arrow ts. item_class false t behind arrow ts k.Text e)
-        | _ ↦ λ e behind arrow ts. item_class false t behind arrow ts _ e ] refl
+    elim (class_of t) as (λ c. class_of t ≡ c → HearsOf (directs_strict false) t (item_heard c false t.text)) [
+      | k.Text ↦ λ e. (last_begins t.kind t.text (ap begins_statement e), λ behind arrow ts. item_class false t behind arrow ts k.Text e)
+      | _ ↦ λ e behind arrow ts. item_class false t behind arrow ts _ e
+    ] refl
 
 -- ---- a token behind a text
 
@@ -88,7 +96,7 @@ pub behind_text : (pending : Option Bool) (strict : Bool) (t : Lexeme) (c : Clas
     → goes_on_by t.newline c ≡ false → heard ≡ item_heard c true t.text → Hears pending t heard
 behind_text pending strict t c heard p s k g e =
     subst (λ x. Hears x t heard) (sym (p ∙ ap Some s))
-        (other_hears t heard (subst (λ c. goes_on_by t.newline c ≡ false) k g) (subst (λ c. heard ≡ item_heard c true t.text) k e))
+    (other_hears t heard (subst (λ c. goes_on_by t.newline c ≡ false) k g) (subst (λ c. heard ≡ item_heard c true t.text) k e))
 
 first_item : (t : Lexeme) (x : Heard) → HearsOf (directs_strict false) t x → Hears None t x
 first_item t (Decided answer) hears = hears
@@ -97,7 +105,7 @@ first_item t (Open now) hears = hears
 pub first_hears : (pending : Option Bool) (t : Lexeme) (c : Class) (heard : Heard) → pending ≡ None → c ≡ class_of t → heard ≡ item_heard c false t.text → Hears pending t heard
 first_hears pending t c heard p k e =
     subst (λ x. Hears x t heard) (sym p)
-        (subst (λ x. Hears None t x) (sym (subst (λ c. heard ≡ item_heard c false t.text) k e)) (first_item t (item_heard (class_of t) false t.text) (item_hears false t)))
+    (subst (λ x. Hears None t x) (sym (subst (λ c. heard ≡ item_heard c false t.text) k e)) (first_item t (item_heard (class_of t) false t.text) (item_hears false t)))
 
 -- ---- one turn over the tokens of a source
 
@@ -123,11 +131,15 @@ pub turn_opens : (opened : List Bool) (source : Text) (s new : State) (hole : Bo
     → say_strict pending (terminals_from 0 (tokens_from opened source s.place)) ≡ whole → s.source ≡ source → s.ended ≡ None
     → hole ≡ in_hole opened → t ≡ token_from hole s → new ≡ behind hole s → Hears pending t (Open now)
     → (say_strict now (terminals_from 0 (tokens_from (braces t opened) source new.place)) ≡ whole)
-        × (new.source ≡ source) × (new.ended ≡ None) × (new.place ≤ length source) × (s.place < new.place)
+    × (new.source ≡ source) × (new.ended ≡ None) × (new.place ≤ length source) × (s.place < new.place)
 turn_opens opened source s new hole pending now t whole so_far same starts holes is new_is hears =
     let turned = turn_goes opened source s new hole [] (tokens_from opened source s.place) t refl same starts holes is new_is hears.0 in
-    let more : List Lexeme = tokens_from (braces t opened) source new.place in
-    (say_behind now 0 (t.at + length t.text) more
-        ∙ sym (hears.1 0 (begins_parameters (class_of t) more) (terminals_from (t.at + length t.text) more))
-        ∙ ap (λ ts. say_strict pending (terminals_from 0 ts)) turned.list ∙ so_far,
-    turned.source_same, turned.not_ended, turned.inside, turned.later)
+    let more : List Lexeme = tokens_from (braces t opened) source new.place in (
+      say_behind now 0 (t.at + length t.text) more
+          ∙ sym (hears.1 0 (begins_parameters (class_of t) more) (terminals_from (t.at + length t.text) more))
+          ∙ ap (λ ts. say_strict pending (terminals_from 0 ts)) turned.list ∙ so_far,
+      turned.source_same,
+      turned.not_ended,
+      turned.inside,
+      turned.later,
+    )

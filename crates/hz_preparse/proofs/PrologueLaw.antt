@@ -1,5 +1,5 @@
 -- The directives of a source that is read are those that its tokens tell.
-use Rattle.std.proofs.Common.{◌≡◌, ℕ, zero, suc, ◌≤◌, Bool, true, false, not, ◌&&◌, ◌||◌, if◌then◌else◌, List, [], ◌∷◌, length, Option, Some, None, refl, ap, sym, ◌∙◌, subst, arith, rules}
+use Rattle.std.proofs.Common.{◌≡◌, ℕ, zero, suc, ◌≤◌, Bool, true, false, not, ◌&&◌, ◌||◌, if◌then◌else◌, List, [], ◌∷◌, length, Some, None, refl, ap, sym, ◌∙◌, subst, arith, rules}
 use Rattle.hz_tree.specs.declared.class.Class.{Class}
 use Rattle.hz_tree.specs.declared.class.Class.TheVariants as k
 use Rattle.hz_tree.specs.declared.nonterminal.Nonterminal.TheVariants as n
@@ -10,17 +10,17 @@ use Rattle.hz_tree.specs.declared.tree.Tree.{Tree, out-Tree, the_lemmas}
 use Rattle.hz_tree.specs.declared.tree.Tree.TheVariants as t
 use Rattle.hz_tree.specs.Classes.{fits, is_name}
 use Rattle.hz_tree.specs.Look.{Terminal, Look, look, stuck, is_async_word, is_function, is_paren}
-use Rattle.hz_tree.specs.Symbols.{goes, refuses, Row, Value, Parts, of_script}
-use Rattle.hz_tree.specs.Reading.{Reading, Got, Stuck, takes, reads}
+use Rattle.hz_tree.specs.Symbols.{goes, refuses, Value, of_script}
+use Rattle.hz_tree.specs.Reading.{Got, Stuck, takes, reads}
 use Rattle.hz_tree.specs.Text.{Text}
 use Rattle.hz_tree.specs.Places.{place}
 use Rattle.hz_tree.specs.GrammarStatements.{items_row, item_row, statement_by, is_colon, semi_by}
 use Rattle.hz_tree.specs.Refusals.{directive, is_use_strict, says_strict, script_items, is_strict}
 use Rattle.hz_preparse.specs.Prologue.{goes_on, is_text, is_semicolon, directs_strict, prologue}
-use Rattle.hz_preparse.proofs.Readings.{ReadsAll, RowGives, gives}
+use Rattle.hz_preparse.proofs.Readings.{RowGives, gives}
 use Rattle.hz_preparse.proofs.TextRows.{text_of, false_true}
 use Rattle.hz_preparse.proofs.NoText.{item_none, directive_expression}
-use Rattle.hz_preparse.proofs.TextExpression.{Stage, text_tree, text_of_text, expr_text, look_one, last_read}
+use Rattle.hz_preparse.proofs.TextExpression.{text_of_text, expr_text, look_one, last_read}
 
 -- ---- semicolons
 
@@ -28,7 +28,7 @@ took : (wanted : Class) (us : List Terminal) (v : Terminal) (mid : List Terminal
 took wanted [] v mid is = cc
 took wanted (y ∷ us) v mid is =
     elim (fits wanted y.class) as (λ b. (if b then Got y us else Stuck (stuck (look (y ∷ us))) (y ∷ us)) ≡ Got v mid → y ∷ us ≡ v ∷ mid)
-        [ true ↦ λ e. cc | false ↦ λ e. cc ] is
+    [ true ↦ λ e. cc | false ↦ λ e. cc ] is
 
 -- the tokens behind the semicolon of a statement, or where none needs to stand
 record Ended (us rest : List Terminal) : Type 0 where
@@ -46,19 +46,20 @@ takes_semicolon : (us : List Terminal) (newline : Bool) → (look us).one ≡ k.
 takes_semicolon us newline e parts rest all =
     record {
       semicolon = λ h. (parts.0, took k.Semicolon us parts.0 rest (subst (λ r. takes k.Semicolon us ≡ Got parts.0 r) (sym all.1.1) all.1.0));
-      nothing = λ h. absurd (false_true (sym h ∙ ap is_semicolon e))
+      nothing = λ h. absurd (false_true (sym h ∙ ap is_semicolon e));
     }
 
 semi_rows : (us : List Terminal) (newline : Bool) (c : Class) → (look us).one ≡ c → SemiRow us newline c
 semi_rows us true c =
     elim c as (λ c. (look us).one ≡ c → SemiRow us true c)
-        [ k.Semicolon ↦ takes_semicolon us true | _ ↦ λ e parts rest all. ended_nothing us rest _ e refl all ]
+    [ k.Semicolon ↦ takes_semicolon us true | _ ↦ λ e parts rest all. ended_nothing us rest _ e refl all ]
 semi_rows us false c =
-    elim c as (λ c. (look us).one ≡ c → SemiRow us false c)
-        [ k.Semicolon ↦ takes_semicolon us false
-        | k.RightBrace ↦ λ e parts rest all. ended_nothing us rest k.RightBrace e refl all
-        | k.End ↦ λ e parts rest all. ended_nothing us rest k.End e refl all
-        | _ ↦ λ e. tt ]
+    elim c as (λ c. (look us).one ≡ c → SemiRow us false c) [
+      | k.Semicolon ↦ takes_semicolon us false
+      | k.RightBrace ↦ λ e parts rest all. ended_nothing us rest k.RightBrace e refl all
+      | k.End ↦ λ e parts rest all. ended_nothing us rest k.End e refl all
+      | _ ↦ λ e. tt
+    ]
 
 semi_ends : (us rest : List Terminal) (w : Value n.Semi) → reads n.Semi us ≡ Got w rest → Ended us rest
 semi_ends us rest w is = gives n.Semi (λ w rest. Ended us rest) us w rest (semi_rows us (look us).one_newline (look us).one refl) is
@@ -75,8 +76,8 @@ behind_same [] h = refl
 behind_same (y ∷ us) h =
     let no : is_semicolon y.class ≡ false = ap is_semicolon (sym (look_one y us)) ∙ h in
     elim (is_text y.class) as (λ b. (if b then not (goes_on (look us)) && (is_use_strict y.token.text || directs_strict true us) else (true && (is_semicolon y.class && directs_strict false us)))
-        ≡ (if b then not (goes_on (look us)) && (is_use_strict y.token.text || directs_strict true us) else (false && (is_semicolon y.class && directs_strict false us))))
-        [ true ↦ refl | false ↦ ap (λ s. s && directs_strict false us) no ]
+    ≡ (if b then not (goes_on (look us)) && (is_use_strict y.token.text || directs_strict true us) else (false && (is_semicolon y.class && directs_strict false us))))
+    [ true ↦ refl | false ↦ ap (λ s. s && directs_strict false us) no ]
 
 behind_semicolon : (y : Terminal) (us : List Terminal) → y.class ≡ k.Semicolon → directs_strict true (y ∷ us) ≡ directs_strict false us
 behind_semicolon y us h =
@@ -92,30 +93,32 @@ statement_text : (x : Terminal) (us : List Terminal) (v : Tree) (rest : List Ter
     → reads (n.Statement of_script) (x ∷ us) ≡ Got v rest → Directs x us v rest
 statement_text x us v rest h is =
     gives (n.Statement of_script) (λ v rest. Directs x us v rest) (x ∷ us) v rest
-        (subst (λ c. RowGives (n.Statement of_script) (λ v rest. Directs x us v rest) (x ∷ us)
-            (if is_async_word c && (not l.two_newline && (is_function l.two || (is_name l.two || (is_paren l.two && l.arrow)))) then refuses (bad.Outside outside.Async)
-            else (if is_name c && is_colon l.two then goes (Take k.Name ∷ Take k.Colon ∷ Read (n.Statement of_script) ∷ []) (λ (name, (_, (body, _))). t.Label name.token.at name.token.text body)
-            else statement_by of_script l c))) (sym (look_one x us ∙ h)) by_text) is
+    (subst (λ c. RowGives (n.Statement of_script) (λ v rest. Directs x us v rest) (x ∷ us)
+    (if is_async_word c && (not l.two_newline && (is_function l.two || (is_name l.two || (is_paren l.two && l.arrow)))) then refuses (bad.Outside outside.Async)
+    else (if is_name c && is_colon l.two then goes (Take k.Name ∷ Take k.Colon ∷ Read (n.Statement of_script) ∷ []) (λ (name, (_, (body, _))). t.Label name.token.at name.token.text body)
+    else statement_by of_script l c))) (sym (look_one x us ∙ h)) by_text) is
   where
     l : Look
     l = look (x ∷ us)
+
     by_text : RowGives (n.Statement of_script) (λ v rest. Directs x us v rest) (x ∷ us) (statement_by of_script (look (x ∷ us)) k.Text)
     by_text parts rest all =
         let value = expr_text x us parts.0 all.0 h all.1.0 in
         let semi = last_read n.Semi all.0 parts.1 rest all.1.1 in
         (record {
           longer = λ e. directive_expression (place parts.0) parts.0 ∙ value.longer e;
-          alone = λ e.
-              (directive_expression (place parts.0) parts.0 ∙ ap text_of (value.alone e).0 ∙ text_of_text x,
-              semi_ends us rest parts.1.0 (ap (reads n.Semi) (sym (value.alone e).1) ∙ semi))
+          alone = λ e. (
+            directive_expression (place parts.0) parts.0 ∙ ap text_of (value.alone e).0 ∙ text_of_text x,
+            semi_ends us rest parts.1.0 (ap (reads n.Semi) (sym (value.alone e).1) ∙ semi),
+          );
         })
 
 item_text : (x : Terminal) (us : List Terminal) (v : Tree) (rest : List Terminal) → x.class ≡ k.Text
     → reads (n.Item of_script) (x ∷ us) ≡ Got v rest → Directs x us v rest
 item_text x us v rest h is =
     gives (n.Item of_script) (λ v rest. Directs x us v rest) (x ∷ us) v rest
-        (subst (λ c. RowGives (n.Item of_script) (λ v rest. Directs x us v rest) (x ∷ us) (item_row of_script c (look (x ∷ us)).two)) (sym (look_one x us ∙ h))
-            (λ parts rest all. statement_text x us parts.0 rest h (last_read (n.Statement of_script) (x ∷ us) parts rest all))) is
+    (subst (λ c. RowGives (n.Item of_script) (λ v rest. Directs x us v rest) (x ∷ us) (item_row of_script c (look (x ∷ us)).two)) (sym (look_one x us ∙ h))
+    (λ parts rest all. statement_text x us parts.0 rest h (last_read (n.Statement of_script) (x ∷ us) parts rest all))) is
 
 -- ---- all items
 
@@ -136,7 +139,7 @@ text_first : (x : Terminal) (us mid : List Terminal) (first : Tree) (more : List
     → (length mid ≤ length us → says_strict more ≡ directs_strict false mid) → says_strict (first ∷ more) ≡ directs_strict false (x ∷ us)
 text_first x us mid first more h directs later =
     let begins : directs_strict false (x ∷ us) ≡ (not (goes_on (look us)) && (is_use_strict x.token.text || directs_strict true us)) =
-        ap (λ c. if is_text c then not (goes_on (look us)) && (is_use_strict x.token.text || directs_strict true us) else (false && (is_semicolon c && directs_strict false us))) h in
+    ap (λ c. if is_text c then not (goes_on (look us)) && (is_use_strict x.token.text || directs_strict true us) else (false && (is_semicolon c && directs_strict false us))) h in
     by_goes (goes_on (look us)) refl ∙ sym begins
   where
     by_semicolon : (b : Bool) → is_semicolon (look us).one ≡ b → Ended us mid → says_strict more ≡ directs_strict true us
@@ -150,6 +153,7 @@ text_first x us mid first more h directs later =
         let same : mid ≡ us = ended.nothing e in
         let shorter : length mid ≤ length us = subst (λ zs. length mid ≤ length zs) same (omega arith) in
         later shorter ∙ ap (directs_strict false) same ∙ sym (behind_same us e)
+
     by_goes : (b : Bool) → goes_on (look us) ≡ b → says_strict (first ∷ more) ≡ (not (goes_on (look us)) && (is_use_strict x.token.text || directs_strict true us))
     by_goes true e = says_none first more (directs.longer e) ∙ sym (ap (λ g. not g && (is_use_strict x.token.text || directs_strict true us)) e)
     by_goes false e =
@@ -179,22 +183,23 @@ items_rows : (ts : List Terminal)
     → ((mid : List Terminal) (more : List Tree) (rest : List Terminal) → suc (length mid) ≤ length ts → reads (n.Items of_script) mid ≡ Got more rest → says_strict more ≡ directs_strict false mid)
     → (c : Class) → (look ts).one ≡ c → RowGives (n.Items of_script) (λ items rest. says_strict items ≡ directs_strict false ts) ts (items_row of_script c)
 items_rows ts shorter c =
-    elim c as (λ c. (look ts).one ≡ c → RowGives (n.Items of_script) (λ items rest. says_strict items ≡ directs_strict false ts) ts (items_row of_script c))
-        [ k.RightBrace ↦ λ e parts rest all. sym (no_text_none ts (ap is_text e))
-        | k.Case ↦ λ e parts rest all. sym (no_text_none ts (ap is_text e))
-        | k.Default ↦ λ e parts rest all. sym (no_text_none ts (ap is_text e))
-        | k.End ↦ λ e parts rest all. sym (no_text_none ts (ap is_text e))
-        | _ ↦ λ e parts rest all.
-            item_first ts all.0 all.1.1.0 parts.0 parts.1.0 all.1.0 (λ h. shorter all.0 parts.1.0 all.1.1.0 h all.1.1.1.0) ]
+    elim c as (λ c. (look ts).one ≡ c → RowGives (n.Items of_script) (λ items rest. says_strict items ≡ directs_strict false ts) ts (items_row of_script c)) [
+      | k.RightBrace ↦ λ e parts rest all. sym (no_text_none ts (ap is_text e))
+      | k.Case ↦ λ e parts rest all. sym (no_text_none ts (ap is_text e))
+      | k.Default ↦ λ e parts rest all. sym (no_text_none ts (ap is_text e))
+      | k.End ↦ λ e parts rest all. sym (no_text_none ts (ap is_text e))
+      | _ ↦ λ e parts rest all.
+          item_first ts all.0 all.1.1.0 parts.0 parts.1.0 all.1.0 (λ h. shorter all.0 parts.1.0 all.1.1.0 h all.1.1.1.0)
+    ]
 
 items_law : (bound : ℕ) (ts : List Terminal) (items : List Tree) (rest : List Terminal) → length ts ≤ bound
     → reads (n.Items of_script) ts ≡ Got items rest → says_strict items ≡ directs_strict false ts
 items_law zero ts items rest h is =
     gives (n.Items of_script) (λ items rest. says_strict items ≡ directs_strict false ts) ts items rest
-        (items_rows ts (λ mid more end less read. absurd (omega arith)) (look ts).one refl) is
+    (items_rows ts (λ mid more end less read. absurd (omega arith)) (look ts).one refl) is
 items_law (suc bound) ts items rest h is =
     gives (n.Items of_script) (λ items rest. says_strict items ≡ directs_strict false ts) ts items rest
-        (items_rows ts (λ mid more end less read. items_law bound mid more end (omega arith) read) (look ts).one refl) is
+    (items_rows ts (λ mid more end less read. items_law bound mid more end (omega arith) read) (look ts).one refl) is
 
 items_of_script : (at : ℕ) (items : List Tree) → script_items (out-Tree (t.Script at items)) ≡ items
 items_of_script at items = search (rules, the_lemmas)
@@ -202,4 +207,4 @@ items_of_script at items = search (rules, the_lemmas)
 pub prologue_law : (ts : List Terminal) (tree : Tree) (rest : List Terminal) → reads n.Script ts ≡ Got tree rest → is_strict tree ≡ prologue ts
 prologue_law ts tree rest is =
     gives n.Script (λ tree rest. is_strict tree ≡ prologue ts) ts tree rest (λ parts end all.
-        ap says_strict (items_of_script 0 parts.0) ∙ items_law (length ts) ts parts.0 all.0 (omega arith) all.1.0) is
+    ap says_strict (items_of_script 0 parts.0) ∙ items_law (length ts) ts parts.0 all.0 (omega arith) all.1.0) is

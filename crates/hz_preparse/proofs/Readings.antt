@@ -1,9 +1,9 @@
 -- What a reading that ends tells of its parts.
-use Rattle.std.proofs.Common.{◌≡◌, ℕ, List, [], ◌∷◌, refl, ap, sym, ◌∙◌, subst}
+use Rattle.std.proofs.Common.{◌≡◌, List, [], ◌∷◌, refl, sym, ◌∙◌, subst}
 use Rattle.hz_tree.specs.declared.nonterminal.Nonterminal.{Nonterminal}
 use Rattle.hz_tree.specs.declared.symbol.Symbol.{Symbol}
 use Rattle.hz_tree.specs.Look.{Terminal, look}
-use Rattle.hz_tree.specs.Symbols.{Part, Parts, RowOf, goes, refuses, Value, Row}
+use Rattle.hz_tree.specs.Symbols.{Part, Parts, goes, refuses, Value, Row}
 use Rattle.hz_tree.specs.Grammar.{row}
 use Rattle.hz_tree.specs.Reading.{Reading, Got, Stuck, Deeper, and_then, read_one, read_all, by_row, reads}
 use Rattle.hz_tree.proofs.Law.{reads_law}

@@ -1,12 +1,8 @@
 -- An expression that begins with a text: it is the text alone exactly where the token behind it does not go on with it.
-use Rattle.std.proofs.Common.{◌≡◌, ℕ, Bool, true, false, not, ◌&&◌, ◌||◌, if◌then◌else◌, List, [], ◌∷◌, Option, Some, None, refl, ap, sym, ◌∙◌, subst}
-use Rattle.hz_tree.specs.declared.class.Class.{Class}
+use Rattle.std.proofs.Common.{◌≡◌, Bool, true, false, not, ◌&&◌, ◌||◌, if◌then◌else◌, List, [], ◌∷◌, Some, None, refl, ap, sym, ◌∙◌, subst}
 use Rattle.hz_tree.specs.declared.class.Class.TheVariants as k
 use Rattle.hz_tree.specs.declared.nonterminal.Nonterminal.{Nonterminal}
 use Rattle.hz_tree.specs.declared.nonterminal.Nonterminal.TheVariants as n
-use Rattle.hz_tree.specs.declared.operator.AssignOperator.{AssignOperator}
-use Rattle.hz_tree.specs.declared.operator.BinaryOperator.{BinaryOperator}
-use Rattle.hz_tree.specs.declared.operator.UpdateOperator.{UpdateOperator}
 use Rattle.hz_tree.specs.declared.tree.Tree.{Tree}
 use Rattle.hz_tree.specs.declared.tree.Tree.TheVariants as t
 use Rattle.hz_tree.specs.declared.symbol.Symbol.TheVariants.{Read}
@@ -14,13 +10,13 @@ use Rattle.hz_tree.specs.declared.outside.BadKind.TheVariants as bad
 use Rattle.hz_tree.specs.declared.outside.OutsideKind.TheVariants as outside
 use Rattle.hz_tree.specs.Classes.{same_class, fits, is_name}
 use Rattle.hz_tree.specs.Look.{Terminal, Look, look, stuck, is_async, is_arrow, is_paren}
-use Rattle.hz_tree.specs.Symbols.{goes, refuses, Row, Value, Parts, of_script}
+use Rattle.hz_tree.specs.Symbols.{goes, refuses, Value, Parts, of_script}
 use Rattle.hz_tree.specs.Grammar.{row}
-use Rattle.hz_tree.specs.Reading.{Reading, Got, Stuck, Deeper, and_then, takes, by_row, reads}
-use Rattle.hz_tree.specs.GrammarExpressions.{listed, expr_rest_row, assign_rest_row, cond_rest_row, operation_row, arrow_row, assign_by}
-use Rattle.hz_tree.specs.GrammarOperators.{joined, raised, updated, conditional, assigned, logical_row, operators_row, power_rest_row, postfix_rest_by, unary_row, power_row}
-use Rattle.hz_tree.specs.GrammarPrimaries.{tailed, tails_row, has_octal, left_row, primary_by}
-use Rattle.hz_preparse.specs.Prologue.{begins_tail, is_update, is_power, is_binary, is_logical, is_question, is_assignment, is_comma, goes_on, is_text}
+use Rattle.hz_tree.specs.Reading.{Got, Stuck, takes, reads}
+use Rattle.hz_tree.specs.GrammarExpressions.{listed, operation_row, arrow_row, assign_by}
+use Rattle.hz_tree.specs.GrammarOperators.{joined, raised, updated, conditional, assigned, unary_row, power_row}
+use Rattle.hz_tree.specs.GrammarPrimaries.{tailed, has_octal, left_row, primary_by}
+use Rattle.hz_preparse.specs.Prologue.{begins_tail, is_update, is_power, is_binary, is_logical, is_question, is_assignment, is_comma, goes_on}
 use Rattle.hz_preparse.proofs.Readings.{ReadsAll, RowGives, gives}
 use Rattle.hz_preparse.proofs.TextRows.{text_of, false_true, none_tailed, none_updated, none_raised, none_joined, none_conditional, none_assigned, none_listed, filled_joined, is_filled, tails_takes, tails_empty, power_takes, power_empty, operators_takes, operators_empty, cond_takes, cond_empty, assign_takes, assign_empty, comma_takes, comma_empty, postfix_takes, postfix_empty, logical_takes, logical_empty}
 
@@ -51,7 +47,7 @@ stage head v us mid rest false true w empty wrap s none some same keeps =
     let alone = s.alone refl in
     record {
       alone = λ h. absurd (false_true (sym h));
-      longer = λ h. subst (λ x. text_of (wrap x w) ≡ None) (sym alone.0) (some refl alone.1)
+      longer = λ h. subst (λ x. text_of (wrap x w) ≡ None) (sym alone.0) (some refl alone.1);
     }
 stage head v us mid rest false false w empty wrap s none some same keeps =
     let alone = s.alone refl in
@@ -63,7 +59,7 @@ nothing_read : (m : Nonterminal) (empty : Value m) (ts : List Terminal) (w : Val
     → row m (look ts) ≡ goes [] (λ _. empty) → reads m ts ≡ Got w rest → (w ≡ empty) × (rest ≡ ts)
 nothing_read m empty ts w rest is read =
     gives m (λ w rest. (w ≡ empty) × (rest ≡ ts)) ts w rest
-        (subst (λ r. RowGives m (λ w rest. (w ≡ empty) × (rest ≡ ts)) ts r) (sym is) (λ parts end all. (refl, all))) read
+    (subst (λ r. RowGives m (λ w rest. (w ≡ empty) × (rest ≡ ts)) ts r) (sym is) (λ parts end all. (refl, all))) read
 
 -- the same at tokens that are told by an equation
 empty_at : (m : Nonterminal) (empty : Value m) (us mid : List Terminal) (w : Value m) (rest : List Terminal)
@@ -102,13 +98,14 @@ primary_text x us v rest h is =
     by_text parts rest all =
         let took = took_text x us parts.0 all.0 all.1.0 h in
         (ap text_tree took.0, all.1.1 ∙ took.1)
+
     either : (b : Bool)
         → RowGives (n.Primary of_script) (λ v rest. (v ≡ text_tree x) × (rest ≡ us)) (x ∷ us)
-            (if b then refuses (bad.Outside outside.Async) else primary_by of_script (look (x ∷ us)) (look (x ∷ us)).one)
+        (if b then refuses (bad.Outside outside.Async) else primary_by of_script (look (x ∷ us)) (look (x ∷ us)).one)
     either true = tt
     either false =
         subst (λ c. RowGives (n.Primary of_script) (λ v rest. (v ≡ text_tree x) × (rest ≡ us)) (x ∷ us) (primary_by of_script (look (x ∷ us)) c))
-            (sym (look_one x us ∙ h)) by_text
+        (sym (look_one x us ∙ h)) by_text
 
 -- ---- its expression, from the tightest operator to the loosest
 
@@ -116,35 +113,35 @@ left_text : (x : Terminal) (us : List Terminal) (v : Tree) (rest : List Terminal
     → reads (n.Left of_script) (x ∷ us) ≡ Got v rest → Stage (text_tree x) v us rest (begins_tail (look us).one)
 left_text x us v rest h is =
     gives (n.Left of_script) (λ v rest. Stage (text_tree x) v us rest (begins_tail (look us).one)) (x ∷ us) v rest
-        (subst (λ c. RowGives (n.Left of_script) (λ v rest. Stage (text_tree x) v us rest (begins_tail (look us).one)) (x ∷ us) (left_row of_script c))
-            (sym (look_one x us ∙ h)) by_text) is
+    (subst (λ c. RowGives (n.Left of_script) (λ v rest. Stage (text_tree x) v us rest (begins_tail (look us).one)) (x ∷ us) (left_row of_script c))
+    (sym (look_one x us ∙ h)) by_text) is
   where
     by_text : RowGives (n.Left of_script) (λ v rest. Stage (text_tree x) v us rest (begins_tail (look us).one)) (x ∷ us) (left_row of_script k.Text)
     by_text parts rest all =
         let first = primary_text x us parts.0 all.0 h all.1.0 in
         let read = last_read (n.Tails of_script) all.0 parts.1 rest all.1.1 in
         stage (text_tree x) parts.0 us all.0 rest false (begins_tail (look us).one) parts.1.0 [] tailed
-            (record { alone = λ e. first; longer = λ e. absurd (false_true e) })
-            (λ e same. empty_at (n.Tails of_script) [] us all.0 parts.1.0 rest (tails_empty (look us).one e) same read)
-            (λ e same. gives_at (n.Tails of_script) (λ w rest. text_of (tailed (text_tree x) w) ≡ None) us all.0 parts.1.0 rest (tails_takes (text_tree x) us (look us).one e) same read)
-            refl (none_tailed parts.0 parts.1.0)
+        (record { alone = λ e. first; longer = λ e. absurd (false_true e) })
+        (λ e same. empty_at (n.Tails of_script) [] us all.0 parts.1.0 rest (tails_empty (look us).one e) same read)
+        (λ e same. gives_at (n.Tails of_script) (λ w rest. text_of (tailed (text_tree x) w) ≡ None) us all.0 parts.1.0 rest (tails_takes (text_tree x) us (look us).one e) same read)
+        refl (none_tailed parts.0 parts.1.0)
 
 unary_text : (x : Terminal) (us : List Terminal) (v : Tree) (rest : List Terminal) → x.class ≡ k.Text
     → reads (n.Unary of_script) (x ∷ us) ≡ Got v rest
     → Stage (text_tree x) v us rest (begins_tail (look us).one || (not (look us).one_newline && is_update (look us).one))
 unary_text x us v rest h is =
     gives (n.Unary of_script) (λ v rest. Stage (text_tree x) v us rest (begins_tail (look us).one || (not (look us).one_newline && is_update (look us).one))) (x ∷ us) v rest
-        (subst (λ c. RowGives (n.Unary of_script) (λ v rest. Stage (text_tree x) v us rest (begins_tail (look us).one || (not (look us).one_newline && is_update (look us).one))) (x ∷ us) (unary_row of_script c))
-            (sym (look_one x us ∙ h)) by_text) is
+    (subst (λ c. RowGives (n.Unary of_script) (λ v rest. Stage (text_tree x) v us rest (begins_tail (look us).one || (not (look us).one_newline && is_update (look us).one))) (x ∷ us) (unary_row of_script c))
+    (sym (look_one x us ∙ h)) by_text) is
   where
     by_text : RowGives (n.Unary of_script) (λ v rest. Stage (text_tree x) v us rest (begins_tail (look us).one || (not (look us).one_newline && is_update (look us).one))) (x ∷ us) (unary_row of_script k.Text)
     by_text parts rest all =
         let read = last_read n.PostfixRest all.0 parts.1 rest all.1.1 in
         stage (text_tree x) parts.0 us all.0 rest (begins_tail (look us).one) (not (look us).one_newline && is_update (look us).one) parts.1.0 None updated
-            (left_text x us parts.0 all.0 h all.1.0)
-            (λ e same. empty_at n.PostfixRest None us all.0 parts.1.0 rest (postfix_empty (look us).one_newline (look us).one e) same read)
-            (λ e same. gives_at n.PostfixRest (λ w rest. text_of (updated (text_tree x) w) ≡ None) us all.0 parts.1.0 rest (postfix_takes (text_tree x) us (look us).one_newline (look us).one e) same read)
-            refl (none_updated parts.0 parts.1.0)
+        (left_text x us parts.0 all.0 h all.1.0)
+        (λ e same. empty_at n.PostfixRest None us all.0 parts.1.0 rest (postfix_empty (look us).one_newline (look us).one e) same read)
+        (λ e same. gives_at n.PostfixRest (λ w rest. text_of (updated (text_tree x) w) ≡ None) us all.0 parts.1.0 rest (postfix_takes (text_tree x) us (look us).one_newline (look us).one e) same read)
+        refl (none_updated parts.0 parts.1.0)
 
 abbrev tight : Look → Bool
 tight l = (begins_tail l.one || (not l.one_newline && is_update l.one)) || is_power l.one
@@ -153,17 +150,17 @@ power_text : (x : Terminal) (us : List Terminal) (v : Tree) (rest : List Termina
     → reads (n.Power of_script) (x ∷ us) ≡ Got v rest → Stage (text_tree x) v us rest (tight (look us))
 power_text x us v rest h is =
     gives (n.Power of_script) (λ v rest. Stage (text_tree x) v us rest (tight (look us))) (x ∷ us) v rest
-        (subst (λ c. RowGives (n.Power of_script) (λ v rest. Stage (text_tree x) v us rest (tight (look us))) (x ∷ us) (power_row of_script c))
-            (sym (look_one x us ∙ h)) by_text) is
+    (subst (λ c. RowGives (n.Power of_script) (λ v rest. Stage (text_tree x) v us rest (tight (look us))) (x ∷ us) (power_row of_script c))
+    (sym (look_one x us ∙ h)) by_text) is
   where
     by_text : RowGives (n.Power of_script) (λ v rest. Stage (text_tree x) v us rest (tight (look us))) (x ∷ us) (power_row of_script k.Text)
     by_text parts rest all =
         let read = last_read (n.PowerRest of_script) all.0 parts.1 rest all.1.1 in
         stage (text_tree x) parts.0 us all.0 rest (begins_tail (look us).one || (not (look us).one_newline && is_update (look us).one)) (is_power (look us).one) parts.1.0 None raised
-            (unary_text x us parts.0 all.0 h all.1.0)
-            (λ e same. empty_at (n.PowerRest of_script) None us all.0 parts.1.0 rest (power_empty (look us).one e) same read)
-            (λ e same. gives_at (n.PowerRest of_script) (λ w rest. text_of (raised (text_tree x) w) ≡ None) us all.0 parts.1.0 rest (power_takes (text_tree x) us (look us).one e) same read)
-            refl (none_raised parts.0 parts.1.0)
+        (unary_text x us parts.0 all.0 h all.1.0)
+        (λ e same. empty_at (n.PowerRest of_script) None us all.0 parts.1.0 rest (power_empty (look us).one e) same read)
+        (λ e same. gives_at (n.PowerRest of_script) (λ w rest. text_of (raised (text_tree x) w) ≡ None) us all.0 parts.1.0 rest (power_takes (text_tree x) us (look us).one e) same read)
+        refl (none_raised parts.0 parts.1.0)
 
 abbrev loose : Look → Bool
 loose l = (((tight l || is_binary l.one) || is_logical l.one) || is_question l.one) || is_assignment l.one
@@ -174,42 +171,42 @@ operation_text x us h parts rest all =
     let l = look us in
     let operand = parts.0 in let operators = parts.1.0 in let logical = parts.1.1.0 in let cond = parts.1.1.1.0 in let assign = parts.1.1.1.1.0 in
     let one : Stage (text_tree x) (joined operand operators) us all.1.1.0 (tight l || is_binary l.one) =
-        stage (text_tree x) operand us all.0 all.1.1.0 (tight l) (is_binary l.one) operators [] joined (power_text x us operand all.0 h all.1.0)
-            (λ e same. empty_at (n.Operators 3 of_script) [] us all.0 operators all.1.1.0 (operators_empty l.one e) same all.1.1.1.0)
-            (λ e same. filled_joined (text_tree x) operators (gives_at (n.Operators 3 of_script) (λ w rest. is_filled w ≡ true) us all.0 operators all.1.1.0 (operators_takes us l.one e) same all.1.1.1.0))
-            refl (none_joined operand operators) in
+    stage (text_tree x) operand us all.0 all.1.1.0 (tight l) (is_binary l.one) operators [] joined (power_text x us operand all.0 h all.1.0)
+    (λ e same. empty_at (n.Operators 3 of_script) [] us all.0 operators all.1.1.0 (operators_empty l.one e) same all.1.1.1.0)
+    (λ e same. filled_joined (text_tree x) operators (gives_at (n.Operators 3 of_script) (λ w rest. is_filled w ≡ true) us all.0 operators all.1.1.0 (operators_takes us l.one e) same all.1.1.1.0))
+    refl (none_joined operand operators) in
     let two : Stage (text_tree x) (joined (joined operand operators) logical) us all.1.1.1.1.0 ((tight l || is_binary l.one) || is_logical l.one) =
-        stage (text_tree x) (joined operand operators) us all.1.1.0 all.1.1.1.1.0 (tight l || is_binary l.one) (is_logical l.one) logical [] joined one
-            (λ e same. empty_at (n.Logical of_script) [] us all.1.1.0 logical all.1.1.1.1.0 (logical_empty l.one e) same all.1.1.1.1.1.0)
-            (λ e same. filled_joined (text_tree x) logical (gives_at (n.Logical of_script) (λ w rest. is_filled w ≡ true) us all.1.1.0 logical all.1.1.1.1.0 (logical_takes us l.one refl e) same all.1.1.1.1.1.0))
-            refl (none_joined (joined operand operators) logical) in
+    stage (text_tree x) (joined operand operators) us all.1.1.0 all.1.1.1.1.0 (tight l || is_binary l.one) (is_logical l.one) logical [] joined one
+    (λ e same. empty_at (n.Logical of_script) [] us all.1.1.0 logical all.1.1.1.1.0 (logical_empty l.one e) same all.1.1.1.1.1.0)
+    (λ e same. filled_joined (text_tree x) logical (gives_at (n.Logical of_script) (λ w rest. is_filled w ≡ true) us all.1.1.0 logical all.1.1.1.1.0 (logical_takes us l.one refl e) same all.1.1.1.1.1.0))
+    refl (none_joined (joined operand operators) logical) in
     let three : Stage (text_tree x) (conditional (joined (joined operand operators) logical) cond) us all.1.1.1.1.1.1.0 (((tight l || is_binary l.one) || is_logical l.one) || is_question l.one) =
-        stage (text_tree x) (joined (joined operand operators) logical) us all.1.1.1.1.0 all.1.1.1.1.1.1.0 ((tight l || is_binary l.one) || is_logical l.one) (is_question l.one) cond None conditional two
-            (λ e same. empty_at (n.CondRest of_script) None us all.1.1.1.1.0 cond all.1.1.1.1.1.1.0 (cond_empty l.one e) same all.1.1.1.1.1.1.1.0)
-            (λ e same. gives_at (n.CondRest of_script) (λ w rest. text_of (conditional (text_tree x) w) ≡ None) us all.1.1.1.1.0 cond all.1.1.1.1.1.1.0 (cond_takes (text_tree x) us l.one e) same all.1.1.1.1.1.1.1.0)
-            refl (none_conditional (joined (joined operand operators) logical) cond) in
+    stage (text_tree x) (joined (joined operand operators) logical) us all.1.1.1.1.0 all.1.1.1.1.1.1.0 ((tight l || is_binary l.one) || is_logical l.one) (is_question l.one) cond None conditional two
+    (λ e same. empty_at (n.CondRest of_script) None us all.1.1.1.1.0 cond all.1.1.1.1.1.1.0 (cond_empty l.one e) same all.1.1.1.1.1.1.1.0)
+    (λ e same. gives_at (n.CondRest of_script) (λ w rest. text_of (conditional (text_tree x) w) ≡ None) us all.1.1.1.1.0 cond all.1.1.1.1.1.1.0 (cond_takes (text_tree x) us l.one e) same all.1.1.1.1.1.1.1.0)
+    refl (none_conditional (joined (joined operand operators) logical) cond) in
     let read = last_read (n.AssignRest of_script) all.1.1.1.1.1.1.0 parts.1.1.1.1 rest all.1.1.1.1.1.1.1.1 in
     stage (text_tree x) (conditional (joined (joined operand operators) logical) cond) us all.1.1.1.1.1.1.0 rest (((tight l || is_binary l.one) || is_logical l.one) || is_question l.one) (is_assignment l.one) assign None assigned three
-        (λ e same. empty_at (n.AssignRest of_script) None us all.1.1.1.1.1.1.0 assign rest (assign_empty l.one e) same read)
-        (λ e same. gives_at (n.AssignRest of_script) (λ w rest. text_of (assigned (text_tree x) w) ≡ None) us all.1.1.1.1.1.1.0 assign rest (assign_takes (text_tree x) us l.one e) same read)
-        refl (none_assigned (conditional (joined (joined operand operators) logical) cond) assign)
+    (λ e same. empty_at (n.AssignRest of_script) None us all.1.1.1.1.1.1.0 assign rest (assign_empty l.one e) same read)
+    (λ e same. gives_at (n.AssignRest of_script) (λ w rest. text_of (assigned (text_tree x) w) ≡ None) us all.1.1.1.1.1.1.0 assign rest (assign_takes (text_tree x) us l.one e) same read)
+    refl (none_assigned (conditional (joined (joined operand operators) logical) cond) assign)
 
 assign_text : (x : Terminal) (us : List Terminal) (v : Tree) (rest : List Terminal) → x.class ≡ k.Text
     → reads (n.Assign of_script) (x ∷ us) ≡ Got v rest → Stage (text_tree x) v us rest (loose (look us))
 assign_text x us v rest h is =
     let l = look (x ∷ us) in
     gives (n.Assign of_script) (λ v rest. Stage (text_tree x) v us rest (loose (look us))) (x ∷ us) v rest
-        (subst (λ c. RowGives (n.Assign of_script) (λ v rest. Stage (text_tree x) v us rest (loose (look us))) (x ∷ us)
-                (if (is_name c && is_arrow l.two) || (is_paren c && l.arrow) then arrow_row of_script (is_paren c) else assign_by of_script false c))
-            (sym (look_one x us ∙ h)) (operation_text x us h)) is
+    (subst (λ c. RowGives (n.Assign of_script) (λ v rest. Stage (text_tree x) v us rest (loose (look us))) (x ∷ us)
+    (if (is_name c && is_arrow l.two) || (is_paren c && l.arrow) then arrow_row of_script (is_paren c) else assign_by of_script false c))
+    (sym (look_one x us ∙ h)) (operation_text x us h)) is
 
 pub expr_text : (x : Terminal) (us : List Terminal) (v : Tree) (rest : List Terminal) → x.class ≡ k.Text
     → reads (n.Expr of_script) (x ∷ us) ≡ Got v rest → Stage (text_tree x) v us rest (goes_on (look us))
 expr_text x us v rest h is =
     gives (n.Expr of_script) (λ v rest. Stage (text_tree x) v us rest (goes_on (look us))) (x ∷ us) v rest (λ parts rest all.
-        let read = last_read (n.ExprRest of_script) all.0 parts.1 rest all.1.1 in
-        stage (text_tree x) parts.0 us all.0 rest (loose (look us)) (is_comma (look us).one) parts.1.0 [] listed
-            (assign_text x us parts.0 all.0 h all.1.0)
-            (λ e same. empty_at (n.ExprRest of_script) [] us all.0 parts.1.0 rest (comma_empty (look us).one e) same read)
-            (λ e same. gives_at (n.ExprRest of_script) (λ w rest. text_of (listed (text_tree x) w) ≡ None) us all.0 parts.1.0 rest (comma_takes (text_tree x) us (look us).one e) same read)
-            refl (none_listed parts.0 parts.1.0)) is
+    let read = last_read (n.ExprRest of_script) all.0 parts.1 rest all.1.1 in
+    stage (text_tree x) parts.0 us all.0 rest (loose (look us)) (is_comma (look us).one) parts.1.0 [] listed
+    (assign_text x us parts.0 all.0 h all.1.0)
+    (λ e same. empty_at (n.ExprRest of_script) [] us all.0 parts.1.0 rest (comma_empty (look us).one e) same read)
+    (λ e same. gives_at (n.ExprRest of_script) (λ w rest. text_of (listed (text_tree x) w) ≡ None) us all.0 parts.1.0 rest (comma_takes (text_tree x) us (look us).one e) same read)
+    refl (none_listed parts.0 parts.1.0)) is

@@ -1,5 +1,5 @@
 -- What one turn makes of the outcome.
-use Rattle.std.proofs.Common.{◌≡◌, ℕ, suc, Bool, true, false, cond, if◌then◌else◌, List, [], ◌∷◌, ◌++◌, Ok, Err, refl, ap, sym, ◌∙◌, subst}
+use Rattle.std.proofs.Common.{◌≡◌, suc, true, false, if◌then◌else◌, List, [], ◌∷◌, ◌++◌, Ok, Err, refl, ap, sym, ◌∙◌, subst}
 use Rattle.hz_tree.specs.declared.class.Class.{Class}
 use Rattle.hz_tree.specs.declared.nonterminal.Nonterminal.{Nonterminal}
 use Rattle.hz_tree.specs.declared.outside.BadKind.{BadKind}
@@ -17,7 +17,7 @@ use Rattle.hz_tree.proofs.Stack.{ends_pushes, ends_fails, ends_take, ends_other,
 use Rattle.hz_tree.proofs.Work.{work_pushes, work_take, work_open, work_count, work_close}
 use Rattle.hz_rows.specs.declared.stop.Stop.TheVariants as stop
 use Rattle.hz_rows.specs.Pushed.{Pushed}
-use Rattle.hz_preparse.specs.Outcome.{Outcome, outcome, refused}
+use Rattle.hz_preparse.specs.Outcome.{outcome, refused}
 use Rattle.hz_preparse.specs.declared.fault.PreFault.TheVariants.{Refused, Memory}
 use Rattle.hz_preparse.specs.Turn.{Done, TakesToken, Expands, Goes, Turns}
 
@@ -27,20 +27,22 @@ pub take_goes : (wanted : Class) (xs : List Symbol) (ts new : List Terminal) (x 
     → Goes (s.Take wanted ∷ xs) ts d xs new d
 take_goes wanted xs [] new x d h = cc
 take_goes wanted xs (y ∷ ts) new x d h =
-    elim (fits wanted y.class) as (λ b. fits wanted y.class ≡ b → (if b then Got y ts else Stuck (stuck (look (y ∷ ts))) (y ∷ ts)) ≡ Got x new → Goes (s.Take wanted ∷ xs) (y ∷ ts) d xs new d)
-        [ true ↦ λ f e. (let same : ts ≡ new = cc in record {
-            same = ap (outcome d) (ap (ends xs) (sym same) ∙ sym (ends_take wanted xs y ts f));
-            less = work_take wanted xs y ts f ∙ ap (λ us. suc (work xs us)) same
-          })
-        | false ↦ λ f e. cc ] refl h
+    elim (fits wanted y.class) as (λ b. fits wanted y.class ≡ b → (if b then Got y ts else Stuck (stuck (look (y ∷ ts))) (y ∷ ts)) ≡ Got x new → Goes (s.Take wanted ∷ xs) (y ∷ ts) d xs new d) [
+      | true ↦ λ f e. (let same : ts ≡ new = cc in record {
+        same = ap (outcome d) (ap (ends xs) (sym same) ∙ sym (ends_take wanted xs y ts f));
+        less = work_take wanted xs y ts f ∙ ap (λ us. suc (work xs us)) same;
+      })
+      | false ↦ λ f e. cc
+    ] refl h
 
 pub take_refuses : (wanted : Class) (xs : List Symbol) (ts : List Terminal) (cause : BadKind) (d : Draft) → takes wanted ts ≡ Stuck cause ts
     → outcome d (ends (s.Take wanted ∷ xs) ts) ≡ refused (refusal_at cause (place_ahead ts))
 take_refuses wanted xs [] cause d h = let e = ends_no_token wanted xs in ap (outcome d) (e ∙ ap (λ c. At c []) cc)
 take_refuses wanted xs (y ∷ ts) cause d h =
-    elim (fits wanted y.class) as (λ b. fits wanted y.class ≡ b → (if b then Got y ts else Stuck (stuck (look (y ∷ ts))) (y ∷ ts)) ≡ Stuck cause (y ∷ ts) → outcome d (ends (s.Take wanted ∷ xs) (y ∷ ts)) ≡ refused (refusal_at cause (place_ahead (y ∷ ts))))
-        [ true ↦ λ f e. cc
-        | false ↦ λ f e. (let same : stuck (look (y ∷ ts)) ≡ cause = cc in ap (outcome d) (ends_other wanted xs y ts f ∙ ap (λ c. At c (y ∷ ts)) same)) ] refl h
+    elim (fits wanted y.class) as (λ b. fits wanted y.class ≡ b → (if b then Got y ts else Stuck (stuck (look (y ∷ ts))) (y ∷ ts)) ≡ Stuck cause (y ∷ ts) → outcome d (ends (s.Take wanted ∷ xs) (y ∷ ts)) ≡ refused (refusal_at cause (place_ahead (y ∷ ts)))) [
+      | true ↦ λ f e. cc
+      | false ↦ λ f e. (let same : stuck (look (y ∷ ts)) ≡ cause = cc in ap (outcome d) (ends_other wanted xs y ts f ∙ ap (λ c. At c (y ∷ ts)) same))
+    ] refl h
 
 -- ---- nonterminals
 
@@ -48,7 +50,7 @@ pub read_goes : (m : Nonterminal) (right xs new : List Symbol) (ts : List Termin
     → Goes (s.Read m ∷ xs) ts d new ts d
 read_goes m right xs new ts d h e = record {
   same = ap (outcome d) (ap (λ ys. ends ys ts) e ∙ sym (ends_pushes m right xs ts h));
-  less = work_pushes m right xs ts h ∙ ap (λ ys. suc (work ys ts)) (sym e)
+  less = work_pushes m right xs ts h ∙ ap (λ ys. suc (work ys ts)) (sym e);
 }
 
 pub read_refuses : (m : Nonterminal) (cause : BadKind) (xs : List Symbol) (ts : List Terminal) (d : Draft) → step m (look ts) ≡ fails cause
@@ -66,19 +68,19 @@ pub open_goes : (kind : FunctionKind) (xs : List Symbol) (ts : List Terminal) (d
     → Goes (s.Open kind ∷ xs) ts d xs ts new
 open_goes kind xs ts d new h = record {
   same = ap (λ e. outcome e (ends xs ts)) h ∙ sym (ap (outcome d) (ends_open kind xs ts) ∙ happened d (Opened kind (place_ahead ts)) (ends xs ts));
-  less = work_open kind xs ts
+  less = work_open kind xs ts;
 }
 
 pub count_goes : (xs : List Symbol) (ts : List Terminal) (d new : Draft) → new ≡ happens d Counted → Goes (s.Count ∷ xs) ts d xs ts new
 count_goes xs ts d new h = record {
   same = ap (λ e. outcome e (ends xs ts)) h ∙ sym (ap (outcome d) (ends_count xs ts) ∙ happened d Counted (ends xs ts));
-  less = work_count xs ts
+  less = work_count xs ts;
 }
 
 pub close_goes : (xs : List Symbol) (ts : List Terminal) (d new : Draft) → new ≡ happens d (Closed (end_behind ts)) → Goes (s.Close ∷ xs) ts d xs ts new
 close_goes xs ts d new h = record {
   same = ap (λ e. outcome e (ends xs ts)) h ∙ sym (ap (outcome d) (ends_close xs ts) ∙ happened d (Closed (end_behind ts)) (ends xs ts));
-  less = work_close xs ts
+  less = work_close xs ts;
 }
 
 -- ---- expanding

@@ -1,5 +1,5 @@
 -- What comes of a whole source.
-use Rattle.std.proofs.Common.{◌≡◌, ℕ, ◌≤◌, Bool, true, false, ◌||◌, cond, if◌then◌else◌, nat_lt, ◌==◌, List, [], ◌∷◌, length, Some, None, Ok, Err, refl, ap, sym, ◌∙◌, subst, arith}
+use Rattle.std.proofs.Common.{◌≡◌, Bool, true, false, ◌||◌, if◌then◌else◌, nat_lt, ◌==◌, List, [], ◌∷◌, length, Some, None, Ok, Err, refl, ap, sym, ◌∙◌, arith}
 use Rattle.std.specs.Str.Lossy.{utf8_valid_len}
 use Rattle.hz_tree.specs.declared.index.FunctionInfo.{FunctionInfo}
 use Rattle.hz_tree.specs.declared.nonterminal.Nonterminal.TheVariants as n
@@ -13,12 +13,12 @@ use Rattle.hz_tree.specs.Drafts.{Draft, built, begun}
 use Rattle.hz_tree.specs.Events.{events_of}
 use Rattle.hz_tree.specs.Look.{Terminal, terminals}
 use Rattle.hz_tree.specs.Reading.{Reading, Got, Stuck, Deeper, reads, place_ahead}
-use Rattle.hz_tree.specs.Refusals.{max_length, is_strict, refusal_at, refusal_by, refusal_of, functions}
+use Rattle.hz_tree.specs.Refusals.{max_length, refusal_at, refusal_by, refusal_of, functions}
 use Rattle.hz_tree.specs.Stack.{Verdict, Through, At, Lost, ends}
 use Rattle.hz_tree.proofs.Answers.{ends_script, stuck_refuses, through_functions}
 use Rattle.hz_preparse.specs.declared.fault.PreFault.{PreFault}
 use Rattle.hz_preparse.specs.declared.fault.PreFault.TheVariants.{Refused, Memory}
-use Rattle.hz_preparse.specs.Outcome.{Outcome, done, refused, nothing, outcome, Answers, Refuses, IsText, Reads}
+use Rattle.hz_preparse.specs.Outcome.{Outcome, done, refused, outcome, Answers, IsText, Reads}
 use Rattle.hz_preparse.specs.Prologue.{prologue}
 use Rattle.hz_preparse.specs.Turn.{Turns}
 use Rattle.hz_preparse.proofs.PrologueLaw.{prologue_law}
@@ -83,7 +83,7 @@ pub read_err : (source : Text) (cursor : List Terminal) (begins : Draft) (fault 
 read_err source cursor begins (Refused why) text c b h = λ strict.
     refusal_text source strict text
     ∙ stuck_refuses_it source why strict (ends (s.Read n.Script ∷ []) (terminals source)) refl
-        (ap (λ x. outcome x (ends (s.Read n.Script ∷ []) (terminals source))) (sym b) ∙ ap (λ ts. outcome begins (ends (s.Read n.Script ∷ []) ts)) (sym c) ∙ h)
+    (ap (λ x. outcome x (ends (s.Read n.Script ∷ []) (terminals source))) (sym b) ∙ ap (λ ts. outcome begins (ends (s.Read n.Script ∷ []) ts)) (sym c) ∙ h)
 read_err source cursor begins Memory text c b h = tt
 
 -- ---- strict code
@@ -105,8 +105,3 @@ pub sloppy : (source : Text) (strict answer : Bool) (functions_found : List Func
     → answer ≡ (strict || prologue (terminals source)) → answer ≡ false → refusal_of source strict ≡ Some refusal.Sloppy
 sloppy source strict answer found text read is h =
     strict_is source strict answer read.0 read.1 text read.2.0 is ∙ ap (λ b. if b then None else Some refusal.Sloppy) h
-
--- what a part of the call refuses, the whole call refuses
-pub fault_refuses : (source : Text) (strict : Bool) (fault : PreFault) → Reads source (Err fault) → Refuses (refusal_of source strict) fault
-fault_refuses source strict (Refused why) h = h strict
-fault_refuses source strict Memory h = tt

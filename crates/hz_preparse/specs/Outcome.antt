@@ -24,7 +24,7 @@ Refuses why Memory = Unit {0}
 pub data Outcome : Type 0 where
   done : Draft → Outcome
   refused : Refusal → Outcome
-  nothing : Outcome -- this does not arise
+  nothing : Outcome  -- this does not arise
 
 -- the verdict on what is left to read, where the tokens before it built this draft
 abbrev pub outcome : Draft → Verdict → Outcome

@@ -89,7 +89,7 @@ is_comma _ = false
 abbrev pub goes_on_by : (newline : Bool) → Class → Bool
 goes_on_by newline c =
     ((((((begins_tail c || (not newline && is_update c)) || is_power c) || is_binary c) || is_logical c) || is_question c)
-        || is_assignment c) || is_comma c
+    || is_assignment c) || is_comma c
 
 abbrev pub goes_on : Look → Bool
 goes_on l = goes_on_by l.one_newline l.one

@@ -82,7 +82,10 @@ impl Draft {
     pub fn into_functions(self) -> FunctionInfos
         ensures { result ≡ self.functions }
     {
-        let Draft { functions, opened: _ } = self;
+        let Draft {
+            functions,
+            opened: _,
+        } = self;
         functions
     }
 

@@ -26,31 +26,24 @@ fn begins_tail(class: Class) -> bool
     matches!(
         class,
         Class::Dot
-        | Class::LeftBracket
-        | Class::LeftParen
-        | Class::OptionalDot
-        | Class::TemplateWhole
-        | Class::TemplateHead
+            | Class::LeftBracket
+            | Class::LeftParen
+            | Class::OptionalDot
+            | Class::TemplateWhole
+            | Class::TemplateHead
     )
 }
 
 fn is_update(class: Class) -> bool
     ensures { result ≡ spec.is_update class }
 {
-    matches!(
-        class,
-        Class::PlusPlus
-        | Class::MinusMinus
-    )
+    matches!(class, Class::PlusPlus | Class::MinusMinus)
 }
 
 fn is_power(class: Class) -> bool
     ensures { result ≡ spec.is_power class }
 {
-    matches!(
-        class,
-        Class::StarStar
-    )
+    matches!(class, Class::StarStar)
 }
 
 fn is_binary(class: Class) -> bool
@@ -59,47 +52,39 @@ fn is_binary(class: Class) -> bool
     matches!(
         class,
         Class::Or
-        | Class::Xor
-        | Class::And
-        | Class::Equal
-        | Class::NotEqual
-        | Class::StrictEqual
-        | Class::StrictNotEqual
-        | Class::Less
-        | Class::Greater
-        | Class::LessEqual
-        | Class::GreaterEqual
-        | Class::In
-        | Class::InstanceOf
-        | Class::ShiftLeft
-        | Class::ShiftRight
-        | Class::ShiftRightZero
-        | Class::Plus
-        | Class::Minus
-        | Class::Star
-        | Class::Slash
-        | Class::Percent
+            | Class::Xor
+            | Class::And
+            | Class::Equal
+            | Class::NotEqual
+            | Class::StrictEqual
+            | Class::StrictNotEqual
+            | Class::Less
+            | Class::Greater
+            | Class::LessEqual
+            | Class::GreaterEqual
+            | Class::In
+            | Class::InstanceOf
+            | Class::ShiftLeft
+            | Class::ShiftRight
+            | Class::ShiftRightZero
+            | Class::Plus
+            | Class::Minus
+            | Class::Star
+            | Class::Slash
+            | Class::Percent
     )
 }
 
 fn is_logical(class: Class) -> bool
     ensures { result ≡ spec.is_logical class }
 {
-    matches!(
-        class,
-        Class::OrOr
-        | Class::AndAnd
-        | Class::Nullish
-    )
+    matches!(class, Class::OrOr | Class::AndAnd | Class::Nullish)
 }
 
 fn is_question(class: Class) -> bool
     ensures { result ≡ spec.is_question class }
 {
-    matches!(
-        class,
-        Class::Question
-    )
+    matches!(class, Class::Question)
 }
 
 fn is_assignment(class: Class) -> bool
@@ -108,29 +93,26 @@ fn is_assignment(class: Class) -> bool
     matches!(
         class,
         Class::Assign
-        | Class::PlusAssign
-        | Class::MinusAssign
-        | Class::StarAssign
-        | Class::SlashAssign
-        | Class::PercentAssign
-        | Class::StarStarAssign
-        | Class::ShiftLeftAssign
-        | Class::ShiftRightAssign
-        | Class::ShiftRightZeroAssign
-        | Class::AndAssign
-        | Class::OrAssign
-        | Class::XorAssign
-        | Class::AndAndAssign
-        | Class::OrOrAssign
-        | Class::NullishAssign
+            | Class::PlusAssign
+            | Class::MinusAssign
+            | Class::StarAssign
+            | Class::SlashAssign
+            | Class::PercentAssign
+            | Class::StarStarAssign
+            | Class::ShiftLeftAssign
+            | Class::ShiftRightAssign
+            | Class::ShiftRightZeroAssign
+            | Class::AndAssign
+            | Class::OrAssign
+            | Class::XorAssign
+            | Class::AndAndAssign
+            | Class::OrOrAssign
+            | Class::NullishAssign
     )
 }
 
 fn is_comma(class: Class) -> bool
     ensures { result ≡ spec.is_comma class }
 {
-    matches!(
-        class,
-        Class::Comma
-    )
+    matches!(class, Class::Comma)
 }

@@ -12,6 +12,8 @@ mod fault;
 mod follow;
 mod index;
 mod recogniser;
+#[cfg(test)]
+mod tests;
 
 pub use fault::PreFault;
 pub use index::preparse;

@@ -36,7 +36,12 @@ fn begin(stack: &mut Stack) -> Result<(), PreFault>
 }
 
 /// Goes past one symbol, which was taken from the stack.
-fn turn(stack: &mut Stack, cursor: &mut Cursor<'_>, draft: &mut Draft, symbol: Symbol) -> Result<(), PreFault>
+fn turn(
+    stack: &mut Stack,
+    cursor: &mut Cursor<'_>,
+    draft: &mut Draft,
+    symbol: Symbol,
+) -> Result<(), PreFault>
     ensures { Turns symbol stack.old cursor.old draft.old result stack.new cursor.new draft.new }
 {
     match symbol {

@@ -1,5 +1,5 @@
-use Rattle.std.proofs.Common.{◌≡◌, ap, sym, ◌∙◌, ◌++◌, subst}
-use Rattle.hz_tree.specs.Grammar.{pushes, step}
+use Rattle.std.proofs.Common.{ap, sym, ◌∙◌}
+use Rattle.hz_tree.specs.Grammar.{step}
 use Rattle.hz_tree.specs.Refusals.{refusal_at}
 use Rattle.hz_cursor.specs.Terminal.{seen}
 use Rattle.hz_preparse.proofs.Turns.{pushed_ok, pushed_refused}

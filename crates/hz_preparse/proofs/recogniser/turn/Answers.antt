@@ -1,7 +1,6 @@
 use Rattle.std.proofs.Common.{sym, ◌∙◌, ap, subst, ◌∷◌}
-use Rattle.hz_tree.specs.declared.symbol.Symbol.TheVariants as s
 use Rattle.hz_tree.specs.Drafts.{happens}
-use Rattle.hz_tree.specs.Reading.{Opened, Counted, Closed}
+use Rattle.hz_tree.specs.Reading.{Opened, Closed}
 use Rattle.hz_preparse.specs.Turn.{Goes}
 use Rattle.hz_preparse.proofs.Turns.{take_turns, read_turns, open_goes, count_goes, close_goes}
 use Rattle.hz_preparse.proofs.recogniser.turn.Goals as goal
@@ -17,16 +16,16 @@ returns-in-Read c =
 pub returns-in_ok-open-in-Open : goal.returns-in_ok-open-in-Open
 returns-in_ok-open-in-Open c =
     subst (λ x. Goes (x ∷ c.args.stack.now) c.args.cursor.now c.args.draft.now c.args.stack.now c.args.cursor.now c.open.new.self) (sym c.in-Open.is)
-        (open_goes c.in-Open.kind c.args.stack.now c.args.cursor.now c.args.draft.now c.open.new.self
-            (c.in_ok-open-in-Open.ensures ∙ ap (λ at. happens c.args.draft.now (Opened c.in-Open.kind at)) c.place.ensures))
+    (open_goes c.in-Open.kind c.args.stack.now c.args.cursor.now c.args.draft.now c.open.new.self
+    (c.in_ok-open-in-Open.ensures ∙ ap (λ at. happens c.args.draft.now (Opened c.in-Open.kind at)) c.place.ensures))
 
 pub returns-in-Count : goal.returns-in-Count
 returns-in-Count c =
     subst (λ x. Goes (x ∷ c.args.stack.now) c.args.cursor.now c.args.draft.now c.args.stack.now c.args.cursor.now c.count.new.self) (sym c.in-Count.is)
-        (count_goes c.args.stack.now c.args.cursor.now c.args.draft.now c.count.new.self c.count.ensures)
+    (count_goes c.args.stack.now c.args.cursor.now c.args.draft.now c.count.new.self c.count.ensures)
 
 pub returns-in-Close : goal.returns-in-Close
 returns-in-Close c =
     subst (λ x. Goes (x ∷ c.args.stack.now) c.args.cursor.now c.args.draft.now c.args.stack.now c.args.cursor.now c.close.new.self) (sym c.in-Close.is)
-        (close_goes c.args.stack.now c.args.cursor.now c.args.draft.now c.close.new.self
-            (c.close.ensures ∙ ap (λ end. happens c.args.draft.now (Closed end)) c.behind.ensures))
+    (close_goes c.args.stack.now c.args.cursor.now c.args.draft.now c.close.new.self
+    (c.close.ensures ∙ ap (λ end. happens c.args.draft.now (Closed end)) c.behind.ensures))

@@ -1,0 +1,71 @@
+//! Sources that are read as strict code only where they say so.
+
+/// Sources that say that they are strict code.
+pub const STRICT: [&str; 17] = [
+    "'use strict'",
+    "\"use strict\"",
+    "'use strict';",
+    "'use strict'\na",
+    "'a'; 'use strict'",
+    "'a'\n'use strict'\nb",
+    "'a';\"b\";'use strict';c",
+    "'use strict'; +a",
+    "'use strict'\n++a",
+    "'use strict'\n--a",
+    "// c\n'use strict'",
+    "/* c */ 'use strict'",
+    "'use strict' /*\n*/ a",
+    "'use strict'\nvar a",
+    "'a'\n\"use strict\"; 'b' + c",
+    "'use strict'\n!a",
+    "'use strict'\n{}",
+];
+
+/// Sources that do not.
+pub const SLOPPY: [&str; 35] = [
+    "",
+    "a",
+    "('use strict')",
+    "'use\\x20strict'",
+    "'use \\strict'",
+    "a; 'use strict'",
+    "'use strict' + a",
+    "'use strict'.a",
+    "'use strict'\n.a",
+    "'use strict'\n[a]",
+    "'use strict'\n(a)",
+    "'use strict'\n+ a",
+    "'use strict'\n/ a",
+    "'use strict', a",
+    "'use strict' ? a : b",
+    "'use strict' ** a",
+    "'use strict' || a",
+    "'use strict' ?? a",
+    "'use strict' && a",
+    "'use strict' in a",
+    "'use strict' = a",
+    "'use strict' += a",
+    "'use strict'++",
+    "'use strict'?.a",
+    "; 'use strict'",
+    "{ 'use strict' }",
+    "'Use Strict'",
+    "' use strict'",
+    "'use strict '",
+    "function f(){ 'use strict' }",
+    "'a', 'use strict'",
+    "'a' + b; 'use strict'",
+    "'a'; b; 'use strict'",
+    "!'use strict'",
+    "`use strict`",
+];
+
+/// Sources in two parts, where the grammar is stuck at the second part: that counts first.
+pub const STUCK: [(&str, &str, &str); 6] = [
+    ("'use strict'; +", "", "Syntax"),
+    ("'use strict'", "`a`", "Outside(TaggedTemplate)"),
+    ("let ", "let", "Syntax"),
+    ("", "class A {}", "Outside(Class)"),
+    ("a ", "b", "Syntax"),
+    ("'use strict' ", "'a'", "Syntax"),
+];

@@ -1,0 +1,51 @@
+//! Names, parameters and bodies of functions.
+
+/// Sources that are read.
+pub const READ: [&str; 11] = [
+    "function f(a){}",
+    "function f(a, b){}",
+    "function f(a, b,){}",
+    "function f(...a){}",
+    "function f(a, ...b){}",
+    "function f(){ let a; return a }",
+    "function f(a){ function g(b){} }",
+    "function* f(a, ...b){}",
+    "(a, b, ...c) => { }",
+    "({a(b, c){}, *d(...e){}})",
+    "function await(async, of){}",
+];
+
+/// Sources in two parts, where the grammar is stuck at the second part, and why.
+pub const STUCK: [(&str, &str, &str); 31] = [
+    ("function f(", ",){}", "Syntax"),
+    ("function f(a ", "b){}", "Syntax"),
+    ("function f(a,", ",b){}", "Syntax"),
+    ("function f(...a", ",){}", "Syntax"),
+    ("function f(", "1){}", "Syntax"),
+    ("function f(a", "", "Syntax"),
+    ("function f(...", "){}", "Syntax"),
+    ("function f(... ", "...a){}", "Syntax"),
+    ("function f(a){ ", "", "Syntax"),
+    ("function f(", "if){}", "Syntax"),
+    ("function ", "if(){}", "Syntax"),
+    ("function f(a) ", "=> b", "Syntax"),
+    ("function f(a ", "= 1){}", "Outside(DefaultParameter)"),
+    ("function f(...a ", "= 1){}", "Outside(DefaultParameter)"),
+    ("({set a(b ", "= 1){}})", "Outside(DefaultParameter)"),
+    ("({a(b ", "= 1){}})", "Outside(DefaultParameter)"),
+    ("(a ", "= 1) => b", "Outside(DefaultParameter)"),
+    ("(a, ...b ", "= 1) => c", "Outside(DefaultParameter)"),
+    ("(function*(a, b ", "= 1){})", "Outside(DefaultParameter)"),
+    ("function f(", "[a]){}", "Outside(Pattern)"),
+    ("function f(", "{a}){}", "Outside(Pattern)"),
+    ("function f(...", "[a]){}", "Outside(Pattern)"),
+    ("function f(a, ", "{b}){}", "Outside(Pattern)"),
+    ("({set a(", "[b]){}})", "Outside(Pattern)"),
+    ("({set a(", "{b}){}})", "Outside(Pattern)"),
+    ("(", "[a]) => b", "Outside(Pattern)"),
+    ("(", "{a}) => b", "Outside(Pattern)"),
+    ("(a, ...", "[b]) => c", "Outside(Pattern)"),
+    ("function ", "[a](){}", "Outside(Pattern)"),
+    ("function ", "{}", "Outside(Pattern)"),
+    ("function* ", "[a](){}", "Outside(Pattern)"),
+];
