@@ -22,7 +22,10 @@ pub struct DiskFiles<R: System> {
 }
 
 impl<R: System> DiskFiles<R> {
-    pub fn new(rt: R) -> Self {
+    pub fn new(rt: R) -> Self
+        ensures reads { result.reads ≡ 0 }
+        ensures writes { result.writes ≡ 0 }
+    {
         DiskFiles {
             rt,
             reads: 0,
@@ -75,7 +78,9 @@ pub struct Reading<R: Read> {
 }
 
 impl<R: Read> Reading<R> {
-    pub fn new(stream: R) -> Self {
+    pub fn new(stream: R) -> Self
+        ensures { result.faults ≡ 0 }
+    {
         Reading { stream, faults: 0 }
     }
 }
@@ -108,7 +113,9 @@ pub struct Writing<W: Write> {
 }
 
 impl<W: Write> Writing<W> {
-    pub fn new(stream: W) -> Self {
+    pub fn new(stream: W) -> Self
+        ensures { result.faults ≡ 0 }
+    {
         Writing { stream, faults: 0 }
     }
 }
