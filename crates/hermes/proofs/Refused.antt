@@ -1,5 +1,5 @@
 -- What the language refuses is never what is only not built yet.
-use Rattle.std.proofs.Common.{◌≡◌, ℕ, List, Option, Some, None, Bool, true, false, if◌then◌else◌, refl}
+use Rattle.std.proofs.Common.{◌≡◌, ℕ, List, Option, Some, None, Bool, true, false, if◌then◌else◌}
 use Rattle.hz_tree.specs.declared.outside.BadKind.{BadKind}
 use Rattle.hz_tree.specs.declared.outside.BadKind.TheVariants as bad
 use Rattle.hz_tree.specs.declared.refusal.Refusal.{Refusal}
