@@ -252,19 +252,37 @@ fn repeated(alloc: Global, open: &str, inner: &str, close: &str, times: u32) -> 
     Ok(all)
 }
 
-#[test]
-fn deep_sources(rt: HostRuntime) -> io::Result<()> {
-    for (open, inner, close) in [
-        ("(", "a", ")"),
-        ("[", "", "]"),
-        ("{", "", "}"),
-        ("`${", "a", "}`"),
-    ] {
-        let source = repeated(rt.alloc(), open, inner, close, 80_000)?;
-        let found = answer(rt.alloc(), source.as_bytes(), true)?;
-        assert_eq!(rt; found.as_str(), "read", "of {open:?}");
-    }
+/// A million constructs, each within the one before.
+fn check_deep(
+    rt: &(impl Abort + AllocGlobal),
+    open: &str,
+    inner: &str,
+    close: &str,
+) -> io::Result<()> {
+    let source = repeated(rt.alloc(), open, inner, close, 1_000_000)?;
+    let found = answer(rt.alloc(), source.as_bytes(), true)?;
+    assert_eq!(rt; found.as_str(), "read", "of {open:?}");
     Ok(())
+}
+
+#[test]
+fn deep_parentheses(rt: HostRuntime) -> io::Result<()> {
+    check_deep(&rt, "(", "a", ")")
+}
+
+#[test]
+fn deep_arrays(rt: HostRuntime) -> io::Result<()> {
+    check_deep(&rt, "[", "", "]")
+}
+
+#[test]
+fn deep_blocks(rt: HostRuntime) -> io::Result<()> {
+    check_deep(&rt, "{", "", "}")
+}
+
+#[test]
+fn deep_templates(rt: HostRuntime) -> io::Result<()> {
+    check_deep(&rt, "`${", "a", "}`")
 }
 
 #[test]
