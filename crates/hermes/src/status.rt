@@ -2,7 +2,6 @@
 
 ghost use Rattle.std.specs.Prelude.{◌≡◌, ℕ, ◌+◌, ◌≤◌, List, [], ◌∷◌, ◌++◌, codes, decimal, length};
 ghost use Rattle.hz_tree.specs.Shown.{name_of_kind, text_of_refusal};
-ghost use Rattle.hz_value.specs.Leaving.{name_of_left};
 ghost use Rattle.hermes.specs.Statuses.{code_of, line_of};
 
 use arrayvec::ArrayVec;
@@ -62,7 +61,7 @@ impl Status {
             Status::Done => ArrayVec::new(),
             Status::Usage(word) => numbered(b"usage error at word ", *word),
             Status::Refused(refusal) => refused(*refusal),
-            Status::Left(reason) => joined(b"left: ", name_of(*reason).as_bytes()),
+            Status::Left(reason) => joined(b"left: ", reason.name().as_bytes()),
             Status::ReadFault => joined(b"read ", b"fault"),
             Status::WriteFault => joined(b"write ", b"fault"),
             Status::Memory => joined(b"out of ", b"memory"),
@@ -90,49 +89,11 @@ fn outside(kind: OutsideKind, at: usize) -> Line
     let mut digits = Buffer::new();
     let mut line = ArrayVec::new();
     add(&mut line, b"refused: Outside(");
-    add(&mut line, name_of_outside(kind).as_bytes());
+    add(&mut line, kind.name().as_bytes());
     add(&mut line, b") at ");
     add(&mut line, digits.format(at).as_bytes());
     line.push(b'\n');
     line
-}
-
-fn name_of_outside(kind: OutsideKind) -> &'static str
-    ensures name { result.now ≡ name_of_kind kind }
-    ensures short { length result.now ≤ 16 }
-{
-    match kind {
-        OutsideKind::Class => "Class",
-        OutsideKind::Async => "Async",
-        OutsideKind::Module => "Module",
-        OutsideKind::With => "With",
-        OutsideKind::RegExp => "RegExp",
-        OutsideKind::BigInt => "BigInt",
-        OutsideKind::NumberForm => "NumberForm",
-        OutsideKind::TaggedTemplate => "TaggedTemplate",
-        OutsideKind::Pattern => "Pattern",
-        OutsideKind::DefaultParameter => "DefaultParameter",
-        OutsideKind::Super => "Super",
-        OutsideKind::PrivateName => "PrivateName",
-        OutsideKind::IdentifierEscape => "IdentifierEscape",
-        OutsideKind::HtmlComment => "HtmlComment",
-        OutsideKind::Character => "Character",
-    }
-}
-
-fn name_of(reason: Left) -> &'static str
-    ensures name { result.now ≡ name_of_left reason }
-    ensures short { length result.now ≤ 11 }
-{
-    match reason {
-        Left::NotSafe => "NotSafe",
-        Left::Missing => "Missing",
-        Left::Wrapper => "Wrapper",
-        Left::ZeroSign => "ZeroSign",
-        Left::CaseMapping => "CaseMapping",
-        Left::TooDeep => "TooDeep",
-        Left::LongLine => "LongLine",
-    }
 }
 
 // The words, and a number behind them.

@@ -52,8 +52,6 @@ primary_by_none ts l c =
       | k.LeftBracket ↦ λ h parts rest all. refl
       | k.LeftBrace ↦ λ h parts rest all. refl
       | k.Text ↦ λ h. absurd (false_true (sym h))
-      | k.Slash ↦ λ h. tt
-      | k.SlashAssign ↦ λ h. tt
       | k.Function ↦ λ h. function_none ts l.two
       | _ ↦ λ h. name_none ts l (is_name l.one)
     ]
@@ -130,7 +128,7 @@ arrow_none ts true = λ parts rest all. refl
 arrow_none ts false = λ parts rest all. refl
 
 assign_by_none : (ts : List Terminal) (c : Class) → is_text (look ts).one ≡ false → RowGives (n.Assign of_script) NoText ts (assign_by of_script false c)
-assign_by_none ts c h = elim c as (λ c. RowGives (n.Assign of_script) NoText ts (assign_by of_script false c)) [ k.Yield ↦ operation_none ts h | _ ↦ operation_none ts h ]
+assign_by_none ts c h = elim c as (λ c. RowGives (n.Assign of_script) NoText ts (assign_by of_script false c)) [ k.Yield ↦ operation_none ts h | k.Slash ↦ tt | k.SlashAssign ↦ tt | _ ↦ operation_none ts h ]
 
 assign_none : (ts : List Terminal) (v : Tree) (rest : List Terminal) → is_text (look ts).one ≡ false → reads (n.Assign of_script) ts ≡ Got v rest → text_of v ≡ None
 assign_none ts v rest h is = gives (n.Assign of_script) NoText ts v rest (either (begins_arrow (look ts))) is

@@ -40,6 +40,13 @@ pub fn is_yield(class: Class) -> bool
     matches!(class, Class::Yield)
 }
 
+/// The first sign of a regular expression.
+pub fn is_slash(class: Class) -> bool
+    ensures { result ≡ heads.is_slash class }
+{
+    matches!(class, Class::Slash | Class::SlashAssign)
+}
+
 /// An operator before its operand.
 pub fn begins_unary(class: Class) -> bool
     ensures { result ≡ operators.begins_unary class }

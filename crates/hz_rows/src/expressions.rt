@@ -8,14 +8,14 @@ ghost use Rattle.hz_rows.specs.Pushed.{Pushed};
 use crate::classes::is_paren;
 use crate::contexts::{of_arrow, with_in};
 use crate::stack::Stack;
-use crate::stop::{Stop, stuck};
+use crate::stop::{Stop, left_out, stuck};
 use hz_cursor::Look;
 use hz_tree::Nonterminal::{
     ArrowBody, ArrowSign, Assign, AssignRest, Body, Bound, CondRest, ExprRest, Logical, Operators,
     Params, Power, YieldValue,
 };
 use hz_tree::Symbol::{Close, Count, Open, Read, Take};
-use hz_tree::{Class, Context, FunctionKind};
+use hz_tree::{Class, Context, FunctionKind, OutsideKind};
 
 pub fn expr_row(stack: &mut Stack, context: Context) -> Result<(), Stop>
     ensures { Pushed (step_of (row.expr_row context)) result stack.old stack.new }
@@ -127,6 +127,7 @@ fn assign_by(stack: &mut Stack, context: Context, one: Class) -> Result<(), Stop
                 operation_row(stack, context)
             }
         }
+        Class::Slash | Class::SlashAssign => left_out(OutsideKind::RegExp),
         _ => operation_row(stack, context),
     }
 }

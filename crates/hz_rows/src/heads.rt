@@ -6,7 +6,7 @@ ghost use Rattle.hz_cursor.specs.Terminal.{seen};
 ghost use Rattle.hz_rows.specs.Pushed.{Pushed};
 ghost use Rattle.std.specs.Prelude.{◌≡◌};
 
-use crate::classes::{begins_unary, is_async_word, is_of, is_yield};
+use crate::classes::{begins_unary, is_async_word, is_of, is_slash, is_yield};
 use crate::contexts::without_in;
 use crate::stack::Stack;
 use crate::stop::{Stop, left_out};
@@ -73,7 +73,10 @@ pub fn left_head_row(stack: &mut Stack, context: Context, one: Class) -> Result<
 fn is_no_left(context: Context, look: Look) -> bool
     ensures { result ≡ row.is_no_left context (seen look) }
 {
-    begins_unary(look.one) || look.begins_arrow() || (is_yield(look.one) && context.yields)
+    begins_unary(look.one)
+        || look.begins_arrow()
+        || (is_yield(look.one) && context.yields)
+        || is_slash(look.one)
 }
 
 /// A head that begins with an expression.

@@ -219,7 +219,6 @@ fn primary_by(stack: &mut Stack, context: Context, look: Look) -> Result<(), Sto
             Read(Props(with_in(context))),
             Take(Class::RightBrace),
         ]),
-        Class::Slash | Class::SlashAssign => left_out(OutsideKind::RegExp),
         one => {
             if is_name(one) {
                 stack.push(&[Take(Class::Name)])

@@ -108,16 +108,19 @@ fn scans_punctuators(rt: HostRuntime) -> io::Result<()> {
 
 #[test]
 fn from_a_place(rt: HostRuntime) -> io::Result<()> {
-    let source = b"a\n-->b";
-    for (place, first) in [
-        (0, "n:a"),
-        (1, "^HtmlComment@2"),
-        (2, "p:--"),
-        (4, "p:>"),
-        (6, "end@6"),
+    for (source, place, hole, first) in [
+        ("a\n-->b", 0, false, "n:a"),
+        ("a\n-->b", 1, false, "^HtmlComment@2"),
+        ("a\n-->b", 2, false, "p:--"),
+        ("a\n-->b", 4, false, "p:>"),
+        ("a\n-->b", 6, false, "end@6"),
+        ("a\nb", 1, false, "^n:b"),
+        ("a\nb", 2, false, "n:b"),
+        ("`${a}b`", 4, true, "tail:}b`"),
+        ("`${a}b`", 4, false, "p:}"),
     ] {
-        let mut scanner = Scanner::at(source, place);
-        let shown = shown(rt.alloc(), &scanner.next(false))?;
+        let mut scanner = Scanner::at(source.as_bytes(), place);
+        let shown = shown(rt.alloc(), &scanner.next(hole))?;
         assert_eq!(rt; shown.as_str(), first, "from {place}");
     }
     Ok(())
@@ -131,8 +134,10 @@ fn last_token_again(rt: HostRuntime) -> io::Result<()> {
     {
         let mut scanner = Scanner::new(source.as_bytes());
         for hole in [true, false, true] {
-            let shown = shown(rt.alloc(), &scanner.next(hole))?;
+            let token = scanner.next(hole);
+            let shown = shown(rt.alloc(), &token)?;
             assert_eq!(rt; shown.as_str(), last);
+            assert!(rt; token.text.is_empty());
         }
     }
     Ok(())

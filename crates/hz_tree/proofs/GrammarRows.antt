@@ -65,7 +65,7 @@ operators_2 = refl
 
 operators_3 :
     map refused (codes "a + /x/" ∷ codes "/x/" ∷ codes "a++ ++" ∷ codes "a\n++b" ∷ codes "a, b, c" ∷ codes "a ? b" ∷ [])
-    ≡ Some (Outside outside.RegExp 4) ∷ Some (Outside outside.RegExp 0) ∷ Some (Syntax 4) ∷ None ∷ None ∷ Some (Syntax 5) ∷ []
+    ≡ Some (Syntax 4) ∷ Some (Outside outside.RegExp 0) ∷ Some (Syntax 4) ∷ None ∷ None ∷ Some (Syntax 5) ∷ []
 unfolding tokens_from token_behind gap blank space_part run code_point char_len is_white_space is_line_terminator token starts_name name name_part continues_name is_reserved reserved_words number decimal non_decimal value_of digits_len digit_part radix_of literal valued other sign punctuator_len punctuator_of line_part line_comment block_part block_comment text text_part template template_part escape_len unicode_escape braced_escape is_octal_escape class_by same_class same_bracket terminals reads_to reads_by
 operators_3 = refl
 

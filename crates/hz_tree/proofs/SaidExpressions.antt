@@ -57,6 +57,8 @@ operation_row_says c = λ p. first_of (simp row_laws, search rules)
 
 pub assign_by_says : (c : Context) (yields : Bool) (one : Class) → SaidRow (n.Assign c) (assign_by c yields one)
 assign_by_says c true k.Yield = λ p. first_of (simp row_laws, search rules)
+assign_by_says c yields k.Slash = tt
+assign_by_says c yields k.SlashAssign = tt
 assign_by_says c yields _ = operation_row_says c
 
 pub assign_row_says : (c : Context) (l : Look) → SaidRow (n.Assign c) (assign_row c l)

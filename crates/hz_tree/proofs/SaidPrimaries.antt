@@ -86,8 +86,6 @@ primary_by_says c l k.TemplateHead = λ p. first_of (simp row_laws, search rules
 primary_by_says c l k.Function = function_expression_row_says c l.two
 primary_by_says c l k.LeftBracket = λ p. first_of (simp row_laws, search rules)
 primary_by_says c l k.LeftBrace = λ p. first_of (simp row_laws, search rules)
-primary_by_says c l k.Slash = tt
-primary_by_says c l k.SlashAssign = tt
 primary_by_says c l _ = says_if (n.Primary c) (is_name l.one) _ _ (λ p. first_of (simp row_laws, search rules)) tt
 
 pub primary_row_says : (c : Context) (l : Look) → SaidRow (n.Primary c) (primary_row c l)

@@ -83,8 +83,9 @@ arrow_fine c false = refl
 
 assign_fine : (c : Context) (b : Bool) (x : Class) → is_fine (n.Assign c) (step_of (assign_by c b x)) ≡ true
 assign_fine c true k.Yield = refl
-assign_fine c true _ = refl
-assign_fine c false x = refl
+assign_fine c b k.Slash = refl
+assign_fine c b k.SlashAssign = refl
+assign_fine c b _ = refl
 
 arrow_sign_fine : (l : Look) (b : Bool) → is_fine (n.ArrowSign) (step_of (arrow_sign_by l b)) ≡ true
 arrow_sign_fine l true = refl
@@ -117,8 +118,6 @@ primary_fine c l k.TemplateWhole = refl
 primary_fine c l k.TemplateHead = refl
 primary_fine c l k.LeftBracket = refl
 primary_fine c l k.LeftBrace = refl
-primary_fine c l k.Slash = refl
-primary_fine c l k.SlashAssign = refl
 primary_fine c l k.Function = function_fine c l.two
 primary_fine c l _ = fine_if (n.Primary c) (is_name l.one) _ _ refl refl
 

@@ -2,6 +2,8 @@
 use Rattle.std.specs.Prelude.{Bool, true, false, if◌then◌else◌, List, [], ◌∷◌, Some, None}
 use Rattle.hz_tree.specs.declared.class.Class.{Class}
 use Rattle.hz_tree.specs.declared.class.Class.TheVariants as k
+use Rattle.hz_tree.specs.declared.outside.BadKind.TheVariants as bad
+use Rattle.hz_tree.specs.declared.outside.OutsideKind.TheVariants as outside
 use Rattle.hz_tree.specs.declared.nonterminal.Context.{Context}
 use Rattle.hz_tree.specs.declared.nonterminal.Nonterminal.TheVariants as n
 use Rattle.hz_tree.specs.declared.operator.AssignOperator.{AssignOperator}
@@ -81,10 +83,13 @@ operation_row c =
     (λ (operand, (operators, (logical, (cond, (assign, _))))).
     assigned (conditional (joined (joined operand operators) logical) cond) assign)
 
--- `yield` is an operator within generators alone; elsewhere no expression begins with it
+-- `yield` is an operator within generators alone; elsewhere no expression begins with it. A regular expression would
+-- begin with `/`.
 abbrev pub assign_by : (c : Context) → (yields : Bool) → Class → Row (n.Assign c)
 assign_by c true k.Yield =
     goes (Take k.Yield ∷ Read (n.YieldValue c) ∷ []) (λ (first, (value, _)). t.Yield first.token.at value.0 value.1)
+assign_by c yields k.Slash = refuses (bad.Outside outside.RegExp)
+assign_by c yields k.SlashAssign = refuses (bad.Outside outside.RegExp)
 assign_by c yields _ = operation_row c
 
 abbrev pub assign_row : (c : Context) → Look → Row (n.Assign c)

@@ -80,8 +80,14 @@ abbrev pub is_yield : Class → Bool
 is_yield k.Yield = true
 is_yield _ = false
 
+abbrev pub is_slash : Class → Bool
+is_slash k.Slash = true
+is_slash k.SlashAssign = true
+is_slash _ = false
+
+-- The head begins with an expression that is no left-hand side.
 abbrev pub is_no_left : (c : Context) → Look → Bool
-is_no_left c l = begins_unary l.one || (begins_arrow l || (is_yield l.one && c.yields))
+is_no_left c l = begins_unary l.one || (begins_arrow l || ((is_yield l.one && c.yields) || is_slash l.one))
 
 abbrev pub expr_head_row : (c : Context) → Look → Row (n.Head c)
 expr_head_row c l =

@@ -142,8 +142,6 @@ primary_by c l k.LeftBracket =
     (λ (first, (elements, _)). t.Array first.token.at elements)
 primary_by c l k.LeftBrace =
     goes (Take k.LeftBrace ∷ Read (n.Props (with_in c)) ∷ Take k.RightBrace ∷ []) (λ (first, (props, _)). t.Object first.token.at props)
-primary_by c l k.Slash = refuses (bad.Outside outside.RegExp)
-primary_by c l k.SlashAssign = refuses (bad.Outside outside.RegExp)
 primary_by c l _ =
     if is_name l.one then goes (Take k.Name ∷ []) (λ (first, _). t.Identifier first.token.at first.token.text) else refuses (stuck l)
 

@@ -1,5 +1,5 @@
 -- Rows of the grammar: items and statements (ECMA-262, 14 and 16).
-use Rattle.std.specs.Prelude.{Bool, true, false, ◌&&◌, if◌then◌else◌, [], ◌∷◌, Some, None}
+use Rattle.std.specs.Prelude.{ℕ, Bool, true, false, ◌&&◌, if◌then◌else◌, List, [], ◌∷◌, Some, None}
 use Rattle.hz_tree.specs.declared.class.Class.{Class}
 use Rattle.hz_tree.specs.declared.class.Class.TheVariants as k
 use Rattle.hz_tree.specs.declared.outside.BadKind.TheVariants as bad
@@ -9,6 +9,7 @@ use Rattle.hz_tree.specs.declared.nonterminal.Nonterminal.TheVariants as n
 use Rattle.hz_tree.specs.declared.operator.DeclarationWord.TheVariants as word
 use Rattle.hz_tree.specs.declared.symbol.Symbol.TheVariants.{Take, Read, Open, Close}
 use Rattle.hz_tree.specs.declared.tree.FunctionKind.TheVariants as kind
+use Rattle.hz_tree.specs.declared.tree.Tree.{Tree}
 use Rattle.hz_tree.specs.declared.tree.Tree.TheVariants as t
 use Rattle.hz_tree.specs.Look.{Look, is_async, stuck}
 use Rattle.hz_tree.specs.Classes.{is_name}
@@ -18,8 +19,14 @@ use Rattle.hz_tree.specs.GrammarFunctions.{function_tree}
 
 -- ---- items
 
+-- the place of the first item, or of the end where there is none
+abbrev pub first_place : List Tree → (end : ℕ) → ℕ
+first_place [] end = end
+first_place (item ∷ items) end = place item
+
 abbrev pub script_row : Row n.Script
-script_row = goes (Read (n.Items of_script) ∷ Take k.End ∷ []) (λ (items, (end, _)). t.Script 0 items)
+script_row =
+    goes (Read (n.Items of_script) ∷ Take k.End ∷ []) (λ (items, (end, _)). t.Script (first_place items end.token.at) items)
 
 abbrev pub items_row : (c : Context) → Class → Row (n.Items c)
 items_row c k.RightBrace = goes [] (λ _. [])

@@ -1,3 +1,6 @@
+ghost use Rattle.std.specs.Prelude.{◌≡◌, ◌≤◌, length};
+ghost use Rattle.hz_tree.specs.Shown.{name_of_kind};
+
 use std::fmt;
 
 /// Why no token begins at a place.
@@ -59,29 +62,38 @@ pub enum OutsideKind {
     Character,
 }
 
+impl OutsideKind {
+    /// The kind's name, as it is printed. It takes no memory.
+    pub fn name(&self) -> &'static str
+        ensures name { result.now ≡ name_of_kind self.now }
+        ensures short { length result.now ≤ 16 }
+    {
+        match self {
+            OutsideKind::Class => "Class",
+            OutsideKind::Async => "Async",
+            OutsideKind::Module => "Module",
+            OutsideKind::With => "With",
+            OutsideKind::RegExp => "RegExp",
+            OutsideKind::BigInt => "BigInt",
+            OutsideKind::NumberForm => "NumberForm",
+            OutsideKind::TaggedTemplate => "TaggedTemplate",
+            OutsideKind::Pattern => "Pattern",
+            OutsideKind::DefaultParameter => "DefaultParameter",
+            OutsideKind::Super => "Super",
+            OutsideKind::PrivateName => "PrivateName",
+            OutsideKind::IdentifierEscape => "IdentifierEscape",
+            OutsideKind::HtmlComment => "HtmlComment",
+            OutsideKind::Character => "Character",
+        }
+    }
+}
+
 impl fmt::Display for OutsideKind {
     ghost use Rattle.std.specs.Prelude.{Some};
-    ghost use Rattle.hz_tree.specs.Shown.{name_of_kind};
 
     ghost output = { λ kind. Some (name_of_kind kind) };
 
     fn fmt<W: fmt::Write>(&self, f: &mut fmt::Formatter<W>) -> fmt::Result {
-        match self {
-            OutsideKind::Class => write!(f, "Class"),
-            OutsideKind::Async => write!(f, "Async"),
-            OutsideKind::Module => write!(f, "Module"),
-            OutsideKind::With => write!(f, "With"),
-            OutsideKind::RegExp => write!(f, "RegExp"),
-            OutsideKind::BigInt => write!(f, "BigInt"),
-            OutsideKind::NumberForm => write!(f, "NumberForm"),
-            OutsideKind::TaggedTemplate => write!(f, "TaggedTemplate"),
-            OutsideKind::Pattern => write!(f, "Pattern"),
-            OutsideKind::DefaultParameter => write!(f, "DefaultParameter"),
-            OutsideKind::Super => write!(f, "Super"),
-            OutsideKind::PrivateName => write!(f, "PrivateName"),
-            OutsideKind::IdentifierEscape => write!(f, "IdentifierEscape"),
-            OutsideKind::HtmlComment => write!(f, "HtmlComment"),
-            OutsideKind::Character => write!(f, "Character"),
-        }
+        f.write_str(self.name())
     }
 }

@@ -1,6 +1,6 @@
 -- The number that a text means: ECMA-262's StringToNumber (7.1.4.1) where its value is a safe integer
 -- that is written without a point and without an exponent.
-use Rattle.std.specs.Prelude.{ℕ, ℤ, pos, neg_ℤ, Bool, not, ◌&&◌, ◌||◌, nat_lt, nat_le, ◌==◌, if◌then◌else◌, Option, Some, None, List, [], ◌∷◌, reverse, length, option_map}
+use Rattle.std.specs.Prelude.{ℕ, ℤ, pos, neg_ℤ, Bool, ◌&&◌, ◌||◌, nat_lt, nat_le, ◌==◌, if◌then◌else◌, Option, Some, None, List, [], ◌∷◌, reverse, length, option_map}
 use Rattle.std.specs.List.{list_all}
 use Rattle.std.specs.Char.{digit_value}
 use Rattle.std.specs.Str.Parse.{digits_value}
@@ -42,7 +42,7 @@ abbrev pub unsigned_of : List ℕ → Option ℕ
 unsigned_of [] = None
 unsigned_of (u ∷ []) = natural_of 10 (u ∷ [])
 unsigned_of (u ∷ v ∷ us) =
-    if u == 48 && not (v == 48) then prefixed (radix_named v) else natural_of 10 (u ∷ v ∷ us)
+    if u == 48 then prefixed (radix_named v) else natural_of 10 (u ∷ v ∷ us)
   where
     prefixed : Option ℕ → Option ℕ
     prefixed (Some radix) = natural_of radix us

@@ -1,3 +1,6 @@
+ghost use Rattle.std.specs.Prelude.{◌≡◌, ◌≤◌, length};
+ghost use Rattle.hz_value.specs.Leaving.{name_of_left};
+
 use std::fmt;
 
 /// Why a run was left: it met something that this compiler does not carry out.
@@ -19,21 +22,30 @@ pub enum Left {
     LongLine,
 }
 
+impl Left {
+    /// The reason's name, as it is printed. It takes no memory.
+    pub fn name(&self) -> &'static str
+        ensures name { result.now ≡ name_of_left self.now }
+        ensures short { length result.now ≤ 11 }
+    {
+        match self {
+            Left::NotSafe => "NotSafe",
+            Left::Missing => "Missing",
+            Left::Wrapper => "Wrapper",
+            Left::ZeroSign => "ZeroSign",
+            Left::CaseMapping => "CaseMapping",
+            Left::TooDeep => "TooDeep",
+            Left::LongLine => "LongLine",
+        }
+    }
+}
+
 impl fmt::Display for Left {
     ghost use Rattle.std.specs.Prelude.{Some};
-    ghost use Rattle.hz_value.specs.Leaving.{name_of_left};
 
     ghost output = { λ left. Some (name_of_left left) };
 
     fn fmt<W: fmt::Write>(&self, f: &mut fmt::Formatter<W>) -> fmt::Result {
-        match self {
-            Left::NotSafe => write!(f, "NotSafe"),
-            Left::Missing => write!(f, "Missing"),
-            Left::Wrapper => write!(f, "Wrapper"),
-            Left::ZeroSign => write!(f, "ZeroSign"),
-            Left::CaseMapping => write!(f, "CaseMapping"),
-            Left::TooDeep => write!(f, "TooDeep"),
-            Left::LongLine => write!(f, "LongLine"),
-        }
+        f.write_str(self.name())
     }
 }

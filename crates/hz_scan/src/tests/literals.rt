@@ -1,6 +1,6 @@
 //! String literals and templates.
 
-pub const TEXTS: [(&str, &str); 46] = [
+pub const TEXTS: [(&str, &str); 49] = [
     ("\"\" ''", "t:\"\" t:'' end@5"),
     ("\"a'b\" 'a\"b'", "t:\"a'b\" t:'a\"b' end@11"),
     (
@@ -53,9 +53,12 @@ pub const TEXTS: [(&str, &str); 46] = [
     ("'use strict'", "t:'use strict' end@12"),
     ("'\u{2028}'a", "t:'\u{2028}' n:a end@6"),
     ("'//'/*'*/", "t:'//' end@9"),
+    ("\"\\\u{2029}\"", "t:\"\\\u{2029}\" end@6"),
+    ("'\\2' '\\3' '\\4' '\\5' '\\6'", "o:'\\2' o:'\\3' o:'\\4' o:'\\5' o:'\\6' end@24"),
+    ("'\\\\1'", "t:'\\\\1' end@5"),
 ];
 
-pub const TEMPLATES: [(&str, &str); 37] = [
+pub const TEMPLATES: [(&str, &str); 54] = [
     ("``", "whole:`` end@2"),
     ("`a`", "whole:`a` end@3"),
     ("`a${b}c`", "head:`a${ n:b tail:}c` end@8"),
@@ -102,4 +105,21 @@ pub const TEMPLATES: [(&str, &str); 37] = [
     ("`${}`", "head:`${ tail:}` end@5"),
     ("`${'}'}`", "head:`${ t:'}' tail:}` end@8"),
     ("`a\n${/*}*/\nb}`", "head:`a\n${ ^n:b tail:}` end@14"),
+    ("`\\u004`", "Syntax@0"),
+    ("`\\u`", "Syntax@0"),
+    ("`\\u{}`", "Syntax@0"),
+    ("`\\u{41`", "Syntax@0"),
+    ("`\\xg1`", "Syntax@0"),
+    ("`\\7`", "Syntax@0"),
+    ("`\\9`", "Syntax@0"),
+    ("`\\08`", "Syntax@0"),
+    ("`\\b\\t\\n\\v\\f\\r\\a\\\\`", "whole:`\\b\\t\\n\\v\\f\\r\\a\\\\` end@18"),
+    ("`\\\n\\\r\\\u{2028}\\\u{2029}`", "whole:`\\\n\\\r\\\u{2028}\\\u{2029}` end@14"),
+    ("`\\0a`", "whole:`\\0a` end@5"),
+    ("`\r`", "whole:`\r` end@3"),
+    ("`\u{2028}\u{2029}`", "whole:`\u{2028}\u{2029}` end@8"),
+    ("`${{a:`${b}`}}`", "head:`${ p:{ n:a p:: head:`${ n:b tail:}` p:} tail:}` end@15"),
+    ("`${a\n}`", "head:`${ n:a ^tail:}` end@7"),
+    ("a`b", "n:a Syntax@1"),
+    ("a`\\1`", "n:a Syntax@1"),
 ];

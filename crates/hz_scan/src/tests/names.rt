@@ -1,6 +1,6 @@
 //! Names, words, and characters that begin no token.
 
-pub const ROWS: [(&str, &str); 31] = [
+pub const ROWS: [(&str, &str); 34] = [
     ("a", "n:a end@1"),
     ("$ _ $_a1", "n:$ n:_ n:$_a1 end@8"),
     ("Z9", "n:Z9 end@2"),
@@ -50,4 +50,7 @@ pub const ROWS: [(&str, &str); 31] = [
     ("awaityield staticx", "n:awaityield n:staticx end@18"),
     ("enumé", "n:enumé end@6"),
     ("$if if$", "n:$if n:if$ end@7"),
+    ("\u{37a}", "Character@0"),
+    ("a\u{37a}", "n:a Character@1"),
+    ("\u{2118}a\u{b7}", "n:\u{2118}a\u{b7} end@6"),
 ];

@@ -1,6 +1,6 @@
 //! White space, line terminators and comments.
 
-pub const ROWS: [(&str, &str); 49] = [
+pub const ROWS: [(&str, &str); 53] = [
     ("", "end@0"),
     (" ", "end@1"),
     ("\t\u{b}\u{c} a", "n:a end@5"),
@@ -50,9 +50,16 @@ pub const ROWS: [(&str, &str); 49] = [
     ("#", "PrivateName@0"),
     ("#a", "PrivateName@0"),
     ("a#b", "n:a PrivateName@1"),
+    (
+        "\u{2001}\u{2002}\u{2003}\u{2004}\u{2005}\u{2006}\u{2007}\u{2008}\u{2009}a",
+        "n:a end@28",
+    ),
+    ("#!a\rb", "^n:b end@5"),
+    ("#!a\u{2029}b", "^n:b end@7"),
+    ("\u{feff}#!", "PrivateName@3"),
 ];
 
-pub const HTML_COMMENTS: [(&str, &str); 19] = [
+pub const HTML_COMMENTS: [(&str, &str); 26] = [
     ("<!--", "HtmlComment@0"),
     ("a<!--b", "n:a HtmlComment@1"),
     ("a <!-- b", "n:a HtmlComment@2"),
@@ -72,4 +79,11 @@ pub const HTML_COMMENTS: [(&str, &str); 19] = [
     ("#!a\n-->", "^HtmlComment@4"),
     (";-->", "p:; p:-- p:> end@4"),
     ("-- >", "p:-- p:> end@4"),
+    ("a/*\r*/-->", "n:a ^HtmlComment@6"),
+    ("a/*\u{2028}*/-->", "n:a ^HtmlComment@8"),
+    ("a/*\u{2029}*/-->", "n:a ^HtmlComment@8"),
+    ("'\\\n'-->", "t:'\\\n' p:-- p:> end@7"),
+    ("`\n`-->", "whole:`\n` p:-- p:> end@6"),
+    ("`${\n-->", "head:`${ ^HtmlComment@4"),
+    ("`a\n${-->", "head:`a\n${ p:-- p:> end@8"),
 ];
