@@ -84,6 +84,10 @@ pub record IsFirst (strict : Bool) (calls : List Argument) (bytes : List ℕ) : 
   pub parts : IsTrue (list_all is_argument calls)
   pub spelled : Spells strict calls bytes
 
+-- The bytes spell no other calls.
+abbrev pub IsOnly : Bool → List Argument → List ℕ → Type 0
+IsOnly strict calls bytes = (others : List Argument) → IsFirst strict others bytes → others ≡ calls
+
 -- Some first text begins with these bytes.
 abbrev pub Begins : Bool → List ℕ → Type 0
 Begins strict prefix = (calls : List Argument) × (rest : List ℕ) × IsFirst strict calls (prefix ++ rest)
@@ -111,9 +115,9 @@ abbrev pub weight : List Argument → ℕ
 weight [] = 0
 weight (a ∷ calls) = weight_of a + weight calls
 
--- The text of a file runs with these calls: it has at most 4,095 bytes.
+-- The text of a file runs with these calls: it has at most 4,095 bytes, and spells these calls alone.
 abbrev pub IsAccepted : Bool → List ℕ → List Argument → Type 0
-IsAccepted strict file calls = (length file ≤ 4095) × IsFirst strict calls file
+IsAccepted strict file calls = (length file ≤ 4095) × IsFirst strict calls file × IsOnly strict calls file
 
 -- The text of a file is refused at that place: behind 4,095 bytes where it has more, else where it is stuck.
 abbrev pub IsRefused : Bool → List ℕ → ℕ → Type 0

@@ -35,7 +35,8 @@ PrintedFront strict source old new =
     (calls : List Argument) × IsRunnable strict source calls × AppendsPrefix old new (printed (lines_of calls))
 
 -- What a status says of the source, and of what went out: `old` is what standard output had got before the call,
--- and `new` behind it, where it tells this. Which case comes is determined by the source, but for faults and memory.
+-- and `new` behind it, where it tells this. Since a source that runs spells its calls alone, and is not refused, the
+-- source determines which case comes, but for faults and memory.
 abbrev pub Outcome : Status → Bool → List ℕ → Option (List ℕ) → Option (List ℕ) → Type 0
 Outcome status.Done strict source old new = Printed Done strict source old new
 Outcome (status.Left reason) strict source old new = Printed (LeftFor reason) strict source old new

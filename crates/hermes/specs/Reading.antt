@@ -1,7 +1,7 @@
 -- What the reader of first texts has still to come, at each of its states. Only its private steps cite this.
 use Rattle.std.specs.Prelude.{◌≡◌, ℕ, ◌+◌, ◌≤◌, Bool, IsTrue, List, [], ◌∷◌, ◌++◌, length, decimal, flat_map, map, slice_range, take, ◌==◌, Option, Some, None, false, Result, Ok, Err}
 use Rattle.std.specs.List.{list_all}
-use Rattle.hermes.specs.FirstTexts.{sign_byte, argument_tokens, call_tokens, Spaced, is_number, is_text_byte, is_argument, IsFirst, IsStuck}
+use Rattle.hermes.specs.FirstTexts.{sign_byte, argument_tokens, call_tokens, Spaced, is_number, is_text_byte, is_argument, IsFirst, IsOnly, IsStuck}
 use Rattle.hermes.specs.declared.first.language.Sign.TheVariants.{Plus}
 use Rattle.hermes.specs.declared.first.language.Addend.{Addend}
 use Rattle.hermes.specs.declared.first.language.Sum.{Sum}
@@ -149,6 +149,6 @@ is_between other = false
 
 -- What reading a source gives: its calls, and there are no others; or the place where it stops beginning a first text.
 abbrev pub Reads : Bool → List ℕ → Result (List Argument) FirstFault → Type 0
-Reads strict source (Ok found) = IsFirst strict found source × ((calls : List Argument) → IsFirst strict calls source → calls ≡ found)
+Reads strict source (Ok found) = IsFirst strict found source × IsOnly strict found source
 Reads strict source (Err (fault.NotYet at)) = IsStuck strict source at
 Reads strict source (Err fault.Memory) = Unit {0}

@@ -1,7 +1,7 @@
 // Hermes: compiles a script to a bytecode file in memory, opens that file and runs it.
 //
-// All that the program does is `top::hermes`, over the files and streams of the system. Its contract says how
-// each call ends, what it prints, and when it may answer a fault.
+// All that the program does with its arguments is `top::hermes`, over the files and streams of the system. Its
+// contract says how each call ends, what it prints, and when it may answer a fault.
 #![tactic(auto)]
 
 ghost use Rattle.std.specs.Prelude.{◌≡◌, ◌<◌};
@@ -19,9 +19,8 @@ mod words;
 use disk::{DiskFiles, Reading, Writing};
 use hz_io::{Files, Sink, Source};
 use status::Status;
-use std::alloc::Global;
-use std::env;
-use std::io::{ErrorKind, Result as IoResult};
+use std::alloc::{AllocError, Global};
+use std::env::{Env, FillError};
 use std::marker::Brand;
 use std::process::ExitCode;
 use std::sync::ledger::{Blank, Ledger};
@@ -31,7 +30,10 @@ fn main(rt: HostRuntime) -> ExitCode {
     ExitCode::from(run_program(&rt).code())
 }
 
-// The command on the system's files and streams. Arguments that are not UTF-8 are no words of a command.
+/// The room for an argument, in bytes: Linux passes no longer one to a program.
+const MAX_ARGUMENT: usize = 131_072;
+
+// The command on the system's files and streams. Where memory does not suffice for the arguments, there is none.
 fn run_program(rt: &HostRuntime) -> Status {
     let mut err = Writing::new(rt.stderr());
     match arguments(rt) {
@@ -44,27 +46,30 @@ fn run_program(rt: &HostRuntime) -> Status {
             &mut err,
             Blank::new(1),
         ),
-        Err(error) => {
-            let status = if error.kind() == ErrorKind::OutOfMemory {
-                Status::Memory
-            } else {
-                Status::Usage(0)
-            };
-            top::tell(status, &mut err);
-            status
+        Err(AllocError) => {
+            top::tell(Status::Memory, &mut err);
+            Status::Memory
         }
     }
 }
 
 // The arguments of the program without its own name.
-fn arguments(rt: &HostRuntime) -> IoResult<Vec<String>> {
+fn arguments(rt: &HostRuntime) -> Result<Vec<String>, AllocError> {
     let mut words = Vec::new(rt.alloc());
-    for word in env::args(rt)?.skip(1) {
-        if words.push(word).is_err() {
-            return Err(ErrorKind::OutOfMemory.into());
+    let mut room = [0; MAX_ARGUMENT];
+    for i in 1..usize::MAX {
+        match rt.arg(i, &mut room) {
+            Ok(length) => words.push(word_of(rt.alloc(), &room[..length])?)?,
+            Err(FillError::TooLong) => words.push(String::new(rt.alloc()))?,
+            Err(FillError::NotPresent) => break,
         }
     }
     Ok(words)
+}
+
+// The word that an argument is. One that is not UTF-8 is the empty word, which no command has.
+fn word_of(alloc: Global, bytes: &[u8]) -> Result<String, AllocError> {
+    String::from_str(alloc, str::from_utf8(bytes).unwrap_or(""))
 }
 
 // The command, with a count of steps that nobody reads.

@@ -18,7 +18,7 @@ pub enum Status {
     /// The words are no command. This is the number of the first word at which they stop beginning one.
     Usage(usize),
 
-    /// The source was not compiled.
+    /// The source is no script of the language, or holds what is not built yet: it was not compiled.
     Refused(Refusal),
 
     /// The run met something that this compiler does not carry out.

@@ -147,6 +147,10 @@ fn bytes_that_are_no_text_are_refused(rt: HostRuntime) -> Result<(), Fail> {
     let shown = run_words(alloc, &words, "a.js", b"\xFF")?;
     let status = Status::Refused(Refusal::NotUtf8(0));
     assert_shown(&rt, shown, status, b"", b"refused: NotUtf8 at 0\n");
+    // the magic of a bytecode file
+    let magic = b"\xFFHBCW\0\r\n";
+    let shown = run_words(alloc, &words, "a.js", magic)?;
+    assert_shown(&rt, shown, status, b"", b"refused: NotUtf8 at 0\n");
     let longer = vec![in alloc; b' '; 16_777_216]?;
     let shown = run_words(alloc, &words, "a.js", longer.as_slice())?;
     let status = Status::Refused(Refusal::TooLong);

@@ -20,17 +20,25 @@ const MOST: u64 = 16_777_215;
 
 /// Does what the words command, and sends the line of the status to `err`.
 ///
-/// `words` are the program's arguments without its own name. `run FILE` reads the file as a script, compiles
-/// it to a bytecode file in memory, opens that file and runs it. With `-strict` before the file's name, the
-/// script is strict code without a directive too.
+/// `words` are the program's arguments without its own name: `run`, then `-strict` or not, then `--` or not, then
+/// the name of a file. It reads the file as a script, compiles it to a bytecode file in memory, opens that file and
+/// runs it. With `-strict` the script is strict code without a directive too.
+///
+/// - `Done`: the script ran to its end, and `out` got its lines.
+/// - `Left`: the run met what this compiler does not carry out, and `out` got the lines before.
+/// - `Usage`: the words are no command. Nothing else was touched.
+/// - `Refused`: the file is no script of the language, or holds what is not built yet. `out` got nothing.
+/// - `ReadFault`: the file could not be read. `out` got nothing.
+/// - `WriteFault`: `out` failed in this call, and got a front of the script's lines.
+/// - `Memory`: memory ran out, and `out` got a front of the script's lines. This can come in the place of any but `Usage`.
 pub fn hermes<F: Files, S: Source, K: Sink, E: Sink, L: Ledger>(
     alloc: Global,
     words: &[String],
     files: &mut F,
-    _input: &mut S,
+    input: &mut S,
     out: &mut K,
     err: &mut E,
-    _steps: &mut Steps<L>,
+    steps: &mut Steps<L>,
 ) -> Status
     // Words that are no command are answered so, and nothing but err is touched.
     ensures usage { (word : ℕ) → usage_fault (map string_bytes words.now) ≡ Some word
@@ -52,8 +60,8 @@ pub fn hermes<F: Files, S: Source, K: Sink, E: Sink, L: Ledger>(
     // No file changes, and neither do the input and the count of steps.
     ensures held { F.held files.new ≡ F.held files.old }
     ensures writes { (name : List ℕ) → F.write_count files.new name ≡ F.write_count files.old name }
-    ensures input { _input.new ≡ _input.old }
-    ensures steps { _steps.new ≡ _steps.old }
+    ensures input { input.new ≡ input.old }
+    ensures steps { steps.new ≡ steps.old }
 {
     let status = run_words(alloc, words, files, out);
     tell(status, err);
@@ -106,7 +114,7 @@ fn run_file<F: Files, K: Sink>(
     }
 }
 
-// Sends the line of the status, where it has one.
+/// Sends the line of the status, where it has one. After a fault a front of it was sent.
 pub fn tell<E: Sink>(status: Status, err: &mut E)
     ensures line { GetsLine (E.got err.old) (E.got err.new) (E.count err.old) (E.count err.new) (line_of status) }
 {

@@ -4,8 +4,10 @@ use hz_tree::{BadKind, Class, OutsideKind, Token};
 /// A token as the grammar sees it.
 #[derive(Clone, Copy, Debug)]
 pub struct Terminal<'a> {
+    /// The token.
     pub token: Token<'a>,
 
+    /// What the grammar asks of it.
     pub class: Class,
 
     /// The place at which the token before it ends, or 0, counted in bytes.
@@ -18,11 +20,13 @@ pub struct Terminal<'a> {
 /// The next two tokens, as the rules of the grammar test them. Where none stands there, the class is `End`.
 #[derive(Clone, Copy, Debug)]
 pub struct Look {
+    /// The class of the first.
     pub one: Class,
 
     /// Whether a line ends before the first of them.
     pub one_newline: bool,
 
+    /// The class of the second.
     pub two: Class,
 
     /// Whether a line ends before the second of them.

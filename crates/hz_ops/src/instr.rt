@@ -7,11 +7,16 @@ use crate::op::{Op, Operand};
 use arrayvec::ArrayVec;
 use hz_value::Memory;
 
-/// An instruction, in its long form where `long` is set.
+/// An instruction.
 #[derive(Clone, Debug, PartialEq, Eq, Drop)]
 pub struct Instr {
+    /// Its operation.
     pub op: Op,
+
+    /// Whether it has the long form.
     pub long: bool,
+
+    /// Its operands, in the order in which they are written.
     pub args: ArrayVec<Operand, 5>,
 }
 

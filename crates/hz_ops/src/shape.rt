@@ -8,6 +8,7 @@ use arrayvec::ArrayVec;
 
 /// The kinds of an operation's operands, in their order.
 pub struct Shape<const N: usize> {
+    /// One for each operand.
     pub kinds: [OperandKind; N],
 }
 

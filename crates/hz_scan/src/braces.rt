@@ -1,6 +1,7 @@
 use crate::bytes::byte;
 use hz_tree::{Token, TokenKind};
-use std::alloc::{AllocError, Global};
+use hz_value::Memory;
+use std::alloc::Global;
 use std::marker::Model;
 
 /// The braces that are open behind some tokens, and which of them a `${` opened. They say where a `}` goes
@@ -23,6 +24,7 @@ impl Braces {
     ghost use Rattle.std.specs.Prelude.{◌≡◌, [], OnOk, OnErr, slice_index};
     ghost use Rattle.hz_tree.specs.Tokens as spec;
 
+    /// No brace is open.
     pub fn new(alloc: Global) -> Braces
         ensures { result ≡ [] }
     {
@@ -41,8 +43,8 @@ impl Braces {
         }
     }
 
-    /// Goes past a token. After an error the braces are as before.
-    pub fn follow(&mut self, token: &Token<'_>) -> Result<(), AllocError>
+    /// Goes past a token. After Memory the braces are as before.
+    pub fn follow(&mut self, token: &Token<'_>) -> Result<(), Memory>
         ensures ok { OnOk result (self.new ≡ spec.braces (spec.lexeme token.now) self.old) }
         ensures err { OnErr result (self.new ≡ self.old) }
     {
@@ -63,7 +65,7 @@ impl Braces {
         Ok(())
     }
 
-    fn follow_punctuator(&mut self, text: &[u8]) -> Result<(), AllocError>
+    fn follow_punctuator(&mut self, text: &[u8]) -> Result<(), Memory>
         ensures ok { OnOk result (self.new ≡ spec.braces_by TokenKind.Punct (slice_index text.now 0) self.old) }
         ensures err { OnErr result (self.new ≡ self.old) }
     {

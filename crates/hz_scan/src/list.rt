@@ -4,10 +4,11 @@ ghost use Rattle.hz_tree.specs.Tokens as spec;
 use crate::braces::Braces;
 use crate::scanner::Scanner;
 use hz_tree::Token;
-use std::alloc::{AllocError, Global};
+use hz_value::Memory;
+use std::alloc::Global;
 
-/// The tokens of a source, up to `End` or the first `Bad`.
-pub fn list_tokens(alloc: Global, source: &[u8]) -> Result<Vec<Token<'_>>, AllocError>
+/// The tokens of a source, up to `End` or the first `Bad`. Only memory can fail.
+pub fn list_tokens(alloc: Global, source: &[u8]) -> Result<Vec<Token<'_>>, Memory>
     ensures { IfOk result (λ all. map spec.lexeme all.items ≡ spec.tokens source.now) }
 {
     let mut scanner = Scanner::new(source);

@@ -3,11 +3,12 @@
 #![tactic(auto)]
 
 use hz_scan::{Braces, Scanner};
-use std::alloc::{AllocError, Global};
+use hz_value::Memory;
+use std::alloc::Global;
 use std::{env, fs, io};
 
 /// How many tokens the source has, the last one included.
-fn count_tokens(alloc: Global, source: &[u8]) -> Result<u64, AllocError> {
+fn count_tokens(alloc: Global, source: &[u8]) -> Result<u64, Memory> {
     let mut scanner = Scanner::new(source);
     let mut braces = Braces::new(alloc);
     for earlier in 0..u64::MAX {

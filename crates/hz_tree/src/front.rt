@@ -13,6 +13,7 @@ pub struct Part {
 /// The token at the front of a text.
 #[derive(Clone, Copy, Debug)]
 pub struct Front {
+    /// What it is.
     pub kind: TokenKind,
 
     /// Its length in bytes.

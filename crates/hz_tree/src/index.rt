@@ -11,6 +11,8 @@ pub struct FunctionInfo {
 
     /// The place behind its last byte; of the script, the source's length.
     pub end: usize,
+
+    /// What kind of function it is.
     pub kind: FunctionKind,
 
     /// The number of its parameters but for the rest one. 255 stands for all greater numbers too.
@@ -41,6 +43,7 @@ impl FunctionInfos {
     ghost use Rattle.std.specs.Prelude.{◌≡◌, ◌<◌, [], ◌∷◌, ◌++◌, length, slice_get, slice_set, Some, OnOk, OnErr};
     ghost use Rattle.std.specs.Option.{option_copied};
 
+    /// An empty list.
     pub fn new(alloc: Global) -> FunctionInfos
         ensures { result ≡ [] }
     {
@@ -49,6 +52,7 @@ impl FunctionInfos {
         }
     }
 
+    /// How many functions there are.
     pub fn len(&self) -> u32
         ensures { result ≡ length self.now }
     {
@@ -70,7 +74,8 @@ impl FunctionInfos {
         &self.items[k as usize]
     }
 
-    /// Adds a function at the end. After a fault the list is as before; a list of 4294967295 functions is full.
+    /// Adds a function at the end. Only memory can fail, and the list is then as before. Memory for more than
+    /// 4294967295 functions, more than a hundred GB, is never there.
     pub fn push(&mut self, info: FunctionInfo) -> Result<(), AllocError>
         ensures ok { OnOk result (self.new ≡ self.old ++ info ∷ []) }
         ensures err { OnErr result (self.new ≡ self.old) }
@@ -128,24 +133,28 @@ impl<'a> Index<'a> {
         }
     }
 
+    /// The source.
     pub fn source(&self) -> &'a [u8]
         ensures { result.now ≡ self.now.source }
     {
         self.source
     }
 
+    /// Whether the source is read as strict code whether it says so or not.
     pub fn strict(&self) -> bool
         ensures { result ≡ self.now.strict }
     {
         self.strict
     }
 
+    /// How many functions the source has, the script among them.
     pub fn count(&self) -> u32
         ensures { result ≡ length (functions_in self.now.source) }
     {
         self.functions.len()
     }
 
+    /// The function with this number. Functions are numbered by where they start; 0 is the script.
     pub fn function(&self, k: u32) -> &FunctionInfo
         requires { k < length (functions_in self.now.source) }
         ensures { slice_get (functions_in self.now.source) k ≡ Some result.now }

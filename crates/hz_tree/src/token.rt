@@ -3,6 +3,7 @@ use crate::outside::BadKind;
 /// A token of a source, ECMA-262's CommonToken and its kin (12.6 to 12.9).
 #[derive(Clone, Copy, Debug)]
 pub struct Token<'a> {
+    /// What it is.
     pub kind: TokenKind,
 
     /// The place of its first byte, counted in bytes from 0.
@@ -24,6 +25,7 @@ pub enum TokenKind {
     /// A reserved word, those of strict code among them.
     Word,
 
+    /// A punctuator.
     Punct,
 
     /// A numeric literal with its value, at most 9007199254740991.

@@ -7,10 +7,19 @@ use std::marker::Model;
 /// The kinds of functions. Getters and setters are methods.
 #[derive(Clone, Copy, Debug, PartialEq, Eq)]
 pub enum FunctionKind {
+    /// The script as a whole.
     Script,
+
+    /// A declaration or an expression that begins with `function`.
     Function,
+
+    /// An arrow function.
     Arrow,
+
+    /// A method, a getter or a setter.
     Method,
+
+    /// A generator: a declaration, an expression or a method with `*`.
     Generator,
 }
 
@@ -31,12 +40,14 @@ impl<'a> Model for Slice<'a> {
 impl<'a> Slice<'a> {
     ghost use Rattle.std.specs.Prelude.{◌≡◌};
 
+    /// These bytes.
     pub fn new(bytes: &'a [u8]) -> Slice<'a>
         ensures { result ≡ bytes.now }
     {
         Slice { bytes }
     }
 
+    /// Its bytes.
     pub fn bytes(&self) -> &'a [u8]
         ensures { result.now ≡ self.now }
     {
@@ -47,15 +58,20 @@ impl<'a> Slice<'a> {
 /// A name that is bound, with its place.
 #[derive(Debug, Drop)]
 pub struct Bound<'a> {
+    /// The place of the name, counted in bytes.
     pub at: usize,
+
+    /// The name as it is written.
     pub name: Slice<'a>,
 }
 
 /// A rest parameter.
 #[derive(Debug, Drop)]
 pub struct Rest<'a> {
-    /// The place of its `...`.
+    /// The place of its `...`, counted in bytes.
     pub at: usize,
+
+    /// The name behind it.
     pub bound: Bound<'a>,
 }
 

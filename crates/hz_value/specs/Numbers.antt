@@ -1,6 +1,6 @@
 -- The numbers of a script and their operators, over the integers.
 -- They are ECMA-262's operators on mathematical values (6.1.6.1 and 7.1.6 to 7.1.7), kept to safe integers
--- (21.1.2.8) with one zero: an operator gives None where ECMA-262's result is no safe integer.
+-- (21.1.2.6 and 21.1.2.8) with one zero: an operator gives None where ECMA-262's result is no safe integer.
 use Rattle.std.specs.Prelude.{suc, ◌≤◌, ℤ, pos, negsuc, ◌+ℤ◌, ◌-ℤ◌, ◌*ℤ◌, neg_ℤ, Bool, nat_le, ◌==◌, if◌then◌else◌, Option, Some, None, unsigned_abs, int_lt, int_div, int_rem}
 use Rattle.std.specs.Int.{int_div_euclid, int_rem_euclid, int_pow}
 

@@ -74,11 +74,11 @@ impl Units {
         self.units.is_empty()
     }
 
-    /// The unit with that index, counted from 0; None exactly past the end.
-    pub fn at(&self, index: usize) -> Option<u16>
-        ensures { result ≡ slice_get self.now index }
+    /// The unit with the number `i`, counted from 0; None exactly past the end.
+    pub fn at(&self, i: usize) -> Option<u16>
+        ensures { result ≡ slice_get self.now i }
     {
-        self.units.get(index).copied()
+        self.units.get(i).copied()
     }
 
     /// Puts the unit at the end. After Memory the text is as before.

@@ -16,7 +16,7 @@ ghost use Rattle.hz_value.specs.Numbers.{
 
 use std::marker::Model;
 
-/// 2 to the 53rd power, less 1: the greatest safe integer (ECMA-262, 21.1.2.8).
+/// 2 to the 53rd power, less 1: the greatest safe integer (ECMA-262, 21.1.2.6).
 const MAX_SAFE: i64 = 9007199254740991;
 
 const TWO_TO_31: i64 = 2147483648;
@@ -43,14 +43,14 @@ impl Model for Safe {
 }
 
 impl Safe {
-    /// The number `value`, or None exactly where it is not safe.
-    pub fn new(value: i64) -> Option<Safe>
-        ensures { result ≡ safe value }
+    /// The number `v`, or None exactly where it is not safe.
+    pub fn new(v: i64) -> Option<Safe>
+        ensures { result ≡ safe v }
     {
-        if value < -MAX_SAFE || value > MAX_SAFE {
+        if v < -MAX_SAFE || v > MAX_SAFE {
             return None;
         }
-        Some(Safe { value })
+        Some(Safe { value: v })
     }
 
     /// The number as an integer of the machine.

@@ -47,10 +47,10 @@ pub fn number_text(alloc: Global, a: Safe) -> Result<Units, Memory>
 /// The number that the text means (ECMA-262, 7.1.4.1), or None exactly where it means none that is a
 /// safe integer, or writes it with a point or an exponent. White space and line terminators at the ends
 /// do not count, and the empty text is 0.
-pub fn text_number(text: &Units) -> Option<Safe>
-    ensures { result ≡ text_value text.now }
+pub fn text_number(t: &Units) -> Option<Safe>
+    ensures { result ≡ text_value t.now }
 {
-    match trim_end(trim_start(text.as_slice())) {
+    match trim_end(trim_start(t.as_slice())) {
         [] => positive(Some(0)),
         [PLUS, digits @ ..] => positive(natural(10, digits)),
         [MINUS, digits @ ..] => negative(natural(10, digits)),

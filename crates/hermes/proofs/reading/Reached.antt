@@ -1,7 +1,7 @@
 -- What follows once a state is reached: it can be completed, and where no step leads on the source is stuck.
 use Rattle.std.proofs.Common.{◌≡◌, ℕ, suc, ◌+◌, ◌-◌, ◌<◌, ◌≤◌, ◌≢◌, Bool, true, false, ◌==◌, List, [], ◌∷◌, ◌++◌, length, take, drop, flat_map, slice_index, slice_range, refl, ap, sym, ◌∙◌, subst, append_assoc, decimal, arith, Option, Some, None, Result, Ok, Err, IfOk, ◌⊎◌, inl, inr}
 use Rattle.std.proofs.lemmas.List.{append-nil, take_more, drop_more, take-append-drop, take_all, take-take, drop-take}
-use Rattle.hermes.specs.FirstTexts.{call_tokens, argument_tokens, Spaced, is_number, IsFirst, Begins, IsStuck, weight}
+use Rattle.hermes.specs.FirstTexts.{call_tokens, argument_tokens, Spaced, is_number, IsFirst, IsOnly, Begins, IsStuck, weight}
 use Rattle.hermes.specs.Reading.{Step, step_tokens, operator_byte, steps_of, steps_with, later_steps, Follow, FollowSum, Rest, RestToken, RestText, RestNumber, Moves, Halts, IsState, Stepped, IsRead, is_between, Reads}
 use Rattle.hermes.proofs.reading.Spacing.{spaced_nil, spaced_end, begin_spaced}
 use Rattle.hermes.proofs.reading.SumSteps.{some_sum, sum_tokens_are}
@@ -235,6 +235,10 @@ failed strict source at now done new fault.Memory high read x = tt
 pub found_of : (strict : Bool) (source : List ℕ) (result : Result (List Argument) FirstFault) → Reads strict source result → IfOk result (λ calls. IsFirst strict calls source)
 found_of strict source (Ok calls) x = x.0
 found_of strict source (Err why) x = tt
+
+pub alone_of : (strict : Bool) (source : List ℕ) (result : Result (List Argument) FirstFault) → Reads strict source result → IfOk result (λ calls. IsOnly strict calls source)
+alone_of strict source (Ok calls) x = x.1
+alone_of strict source (Err why) x = tt
 
 pub only_of : (strict : Bool) (source : List ℕ) (result : Result (List Argument) FirstFault) (calls : List Argument) → Reads strict source result → IsFirst strict calls source → (result ≡ Ok calls) ⊎ (result ≡ Err fault.Memory)
 only_of strict source (Ok found) calls x f = inl (ap (λ (y : List Argument). Ok y) (sym (x.1 calls f)))

@@ -2,7 +2,7 @@
 
 ghost use Rattle.std.specs.Prelude.{◌≡◌, ◌<◌, ◌≤◌, [], length, List, ℕ, ◌⊎◌, IfOk};
 ghost use Rattle.hermes.specs.declared.first.language.Argument.{Argument};
-ghost use Rattle.hermes.specs.FirstTexts.{IsFirst, IsStuck, weight};
+ghost use Rattle.hermes.specs.FirstTexts.{IsFirst, IsOnly, IsStuck, weight};
 ghost use Rattle.hermes.specs.Reading.{is_between, Stepped, Reads, Whole};
 
 use crate::first::language::{Calls, FirstFault, Series};
@@ -72,10 +72,11 @@ fn read_nothing<'a>(alloc: Global, strict: bool) -> Result<Calls<'a>, FirstFault
 /// `NotYet(at)` comes exactly where the source is no first text: `at`, in bytes, is the length of its longest
 /// prefix that begins one. `Memory` may come at any source.
 pub fn read_first(alloc: Global, strict: bool, source: &[u8]) -> Result<Calls<'_>, FirstFault>
-    // The whole source spells the calls that are read.
+    // The whole source spells the calls that are read, and no others.
     ensures found { IfOk result (λ calls. IsFirst strict calls source.now) }
+    ensures alone { IfOk result (λ calls. IsOnly strict calls source.now) }
 
-    // A source that spells calls gives these calls: it spells no others.
+    // A source that spells calls gives these calls.
     ensures only { (calls : List Argument) → IsFirst strict calls source.now → (result ≡ Ok calls) ⊎ (result ≡ Err FirstFault.Memory) }
     ensures stuck { (at : ℕ) → result ≡ Err (FirstFault.NotYet at) → IsStuck strict source.now at }
     ensures place { (at : ℕ) → IsStuck strict source.now at → (result ≡ Err (FirstFault.NotYet at)) ⊎ (result ≡ Err FirstFault.Memory) }

@@ -1,5 +1,9 @@
+use crate::first::compile::compile_first;
 use crate::first::language::{Argument, FirstFault, Sign};
 use crate::first::reader::read_first;
+use crate::first::run::{FirstEnd, run_first};
+use hz_file::File;
+use hz_io::MemSink;
 use std::alloc::Global;
 use std::test::Fail;
 
@@ -114,5 +118,29 @@ fn reads_long_texts(rt: HostRuntime) -> Result<(), Fail> {
     let alloc = rt.alloc();
     assert_eq!(rt; stop(alloc, long_text(alloc, 254)?.as_slice())?, None);
     assert_eq!(rt; stop(alloc, long_text(alloc, 255)?.as_slice())?, Some(274));
+    Ok(())
+}
+
+#[test]
+fn compiles_to_a_file_that_prints(rt: HostRuntime) -> Result<(), Fail> {
+    let alloc = rt.alloc();
+    let source = b"\"use strict\";print(1 + 2 * 3);";
+    let bytes = compile_first(alloc, false, source)?;
+    let file = File::open(bytes.as_slice())?;
+    assert_eq!(rt; file.source(), source.as_slice());
+    let mut out = MemSink::new(alloc, 16)?;
+    assert_eq!(rt; run_first(alloc, &file, &mut out), FirstEnd::Done);
+    assert_eq!(rt; out.bytes(), b"7\n".as_slice());
+    Ok(())
+}
+
+#[test]
+fn compiles_no_other_source(rt: HostRuntime) -> Result<(), Fail> {
+    for (source, stop) in [("\"use strict\";print(1,2);", 20), ("print(1);", 0), ("\"use strict\";a", 13)] {
+        match compile_first(rt.alloc(), false, source.as_bytes()) {
+            Err(FirstFault::NotYet(at)) => assert_eq!(rt; at, stop),
+            _ => assert!(rt; false),
+        }
+    }
     Ok(())
 }
