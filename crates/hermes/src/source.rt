@@ -76,7 +76,8 @@ fn run_file<K: Sink>(alloc: Global, bytes: &[u8], out: &mut K) -> FirstEnd
     requires magic { HasMagic bytes.now }
     requires opens { rule bytes.now ≡ None }
     requires built { IsBuilt (code_in bytes.now) (start_of (code_in bytes.now)) }
-    ensures agrees { (lines : List (List ℕ)) (end : End) → Ends (code_in bytes.now) (start_of (code_in bytes.now)) lines end
+    ensures agrees { (lines : List (List ℕ)) (end : End)
+        → Ends (code_in bytes.now) (start_of (code_in bytes.now)) lines end
         → Agrees lines end (K.got out.old) (K.got out.new) result }
     ensures cause { Counts (K.count out.old) (K.count out.new) result }
 {

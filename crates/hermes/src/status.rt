@@ -84,7 +84,8 @@ fn refused(refusal: Refusal) -> Line
 }
 
 fn outside(kind: OutsideKind, at: usize) -> Line
-    ensures { result.items ≡ codes "refused: Outside(" ++ name_of_kind kind ++ codes ") at " ++ decimal at ++ 10 ∷ [] }
+    ensures { result.items ≡ codes "refused: Outside(" ++ name_of_kind kind ++ codes ") at "
+        ++ decimal at ++ 10 ∷ [] }
 {
     let mut digits = Buffer::new();
     let mut line = ArrayVec::new();

@@ -46,7 +46,8 @@ pub fn hermes<F: Files, S: Source, K: Sink, E: Sink, L: Ledger>(
 
     // Words that are a command: the status, and what went out.
     ensures outcome { usage_fault (map string_bytes words.now) ≡ None
-        → OutcomeOf (F.held files.old) (file_of (map string_bytes words.now)) (strict_of (map string_bytes words.now)) result (K.got out.old) (K.got out.new) }
+        → OutcomeOf (F.held files.old) (file_of (map string_bytes words.now))
+        (strict_of (map string_bytes words.now)) result (K.got out.old) (K.got out.new) }
 
     // A fault of reading is one of this file in this call, and one of writing is one of out in this call.
     ensures read_fault { result ≡ Status.ReadFault
@@ -55,7 +56,8 @@ pub fn hermes<F: Files, S: Source, K: Sink, E: Sink, L: Ledger>(
     ensures write_fault { WriteCause result (K.count out.old) (K.count out.new) }
 
     // Standard error gets the line of the status, or a front of it after a fault of its own.
-    ensures line { GetsLine (E.got err.old) (E.got err.new) (E.count err.old) (E.count err.new) (line_of result) }
+    ensures line { GetsLine (E.got err.old) (E.got err.new) (E.count err.old) (E.count err.new)
+        (line_of result) }
 
     // No file changes, and neither do the input and the count of steps.
     ensures held { F.held files.new ≡ F.held files.old }
@@ -78,7 +80,8 @@ fn run_words<F: Files, K: Sink>(
     ensures usage { (word : ℕ) → usage_fault (map string_bytes words.now) ≡ Some word
         → (result ≡ Status.Usage word) × (files.new ≡ files.old) × (out.new ≡ out.old) }
     ensures outcome { usage_fault (map string_bytes words.now) ≡ None
-        → OutcomeOf (F.held files.old) (file_of (map string_bytes words.now)) (strict_of (map string_bytes words.now)) result (K.got out.old) (K.got out.new) }
+        → OutcomeOf (F.held files.old) (file_of (map string_bytes words.now))
+        (strict_of (map string_bytes words.now)) result (K.got out.old) (K.got out.new) }
     ensures read_fault { result ≡ Status.ReadFault
         → Rose (F.read_count files.old (file_of (map string_bytes words.now)))
         (F.read_count files.new (file_of (map string_bytes words.now))) }
@@ -101,8 +104,10 @@ fn run_file<F: Files, K: Sink>(
     files: &mut F,
     out: &mut K,
 ) -> Status
-    ensures outcome { OutcomeOf (F.held files.old) name.now strict result (K.got out.old) (K.got out.new) }
-    ensures read_fault { result ≡ Status.ReadFault → Rose (F.read_count files.old name.now) (F.read_count files.new name.now) }
+    ensures outcome { OutcomeOf (F.held files.old) name.now strict result (K.got out.old)
+        (K.got out.new) }
+    ensures read_fault { result ≡ Status.ReadFault
+        → Rose (F.read_count files.old name.now) (F.read_count files.new name.now) }
     ensures write_fault { WriteCause result (K.count out.old) (K.count out.new) }
     ensures held { F.held files.new ≡ F.held files.old }
     ensures writes { (q : List ℕ) → F.write_count files.new q ≡ F.write_count files.old q }
@@ -116,7 +121,8 @@ fn run_file<F: Files, K: Sink>(
 
 /// Sends the line of the status, where it has one. After a fault a front of it was sent.
 pub fn tell<E: Sink>(status: Status, err: &mut E)
-    ensures line { GetsLine (E.got err.old) (E.got err.new) (E.count err.old) (E.count err.new) (line_of status) }
+    ensures line { GetsLine (E.got err.old) (E.got err.new) (E.count err.old) (E.count err.new)
+        (line_of status) }
 {
     let line = status.line();
     if line.is_empty() {

@@ -45,7 +45,8 @@ fn behind_run(words: &[String]) -> Result<Command<'_>, usize>
         × (command.strict ≡ has_option (map string_bytes words.now))
         × (command.file.now ≡ name_of (behind_option (map string_bytes words.now))))
         (λ at. (is_file_part (behind_option (map string_bytes words.now)) ≡ false)
-        × (stop_of (λ more. begins_file_part (behind_option more)) (map string_bytes words.now) ≡ at)
+        × (stop_of (λ more. begins_file_part (behind_option more)) (map string_bytes words.now)
+        ≡ at)
         × (at ≤ 3)) }
 {
     let strict = starts_with_option(words);
@@ -59,7 +60,8 @@ fn behind_run(words: &[String]) -> Result<Command<'_>, usize>
 // The name that the words behind the options give, or how many of them begin such words.
 fn file_part(words: &[String]) -> Result<&str, usize>
     ensures { MatchResult result
-        (λ name. (is_file_part (map string_bytes words.now) ≡ true) × (name.now ≡ name_of (map string_bytes words.now)))
+        (λ name. (is_file_part (map string_bytes words.now) ≡ true)
+        × (name.now ≡ name_of (map string_bytes words.now)))
         (λ at. (is_file_part (map string_bytes words.now) ≡ false)
         × (stop_of begins_file_part (map string_bytes words.now) ≡ at)
         × (at ≤ 2)) }

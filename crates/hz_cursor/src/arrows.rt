@@ -15,14 +15,16 @@ use std::alloc::Global;
 
 /// For each `(` of a source, whether `=>` stands behind the `)` that matches it. The first one comes last.
 pub fn arrow_flags(alloc: Global, source: &[u8]) -> Result<Vec<bool>, Memory>
-    ensures { IfOk result (λ flags. reverse flags.items ≡ arrows (map spec.class_of (tokens source.now))) }
+    ensures { IfOk result
+        (λ flags. reverse flags.items ≡ arrows (map spec.class_of (tokens source.now))) }
 {
     let marks = marks_of(alloc, source)?;
     flags_of(alloc, marks)
 }
 
 fn marks_of(alloc: Global, source: &[u8]) -> Result<Vec<Mark>, Memory>
-    ensures { IfOk result (λ marks. marks.items ≡ marks_from false [] (map spec.class_of (tokens source.now))) }
+    ensures { IfOk result
+        (λ marks. marks.items ≡ marks_from false [] (map spec.class_of (tokens source.now))) }
 {
     let mut scanner = Scanner::new(source);
     let mut braces = Braces::new(alloc);

@@ -121,7 +121,8 @@ fn is_innermost(opened: &Vec<Bracket>, bracket: Bracket) -> bool
 
 /// Leaves all brackets open for good.
 fn drop_all(opened: &mut Vec<Bracket>, marks: &mut Vec<Mark>) -> Result<(), Memory>
-    ensures marks { OnOk result (marks.new.items ≡ marks.old.items ++ dropped (reverse opened.old.items)) }
+    ensures marks { OnOk result
+        (marks.new.items ≡ marks.old.items ++ dropped (reverse opened.old.items)) }
     ensures opened { OnOk result (opened.new.items ≡ []) }
 {
     while let Some(bracket) = opened.pop() {

@@ -90,7 +90,8 @@ impl<'a> Terminals<'a> {
 /// At a `(` the last flag, which it takes away.
 fn next_flag(flags: &mut Vec<bool>, class: Class) -> bool
     ensures value { result ≡ (is_paren class && first_or_false (reverse flags.old.items)) }
-    ensures rest { reverse flags.new.items ≡ (if is_paren class then drop 1 (reverse flags.old.items) else reverse flags.old.items) }
+    ensures rest { reverse flags.new.items
+        ≡ (if is_paren class then drop 1 (reverse flags.old.items) else reverse flags.old.items) }
 {
     match class {
         Class::LeftParen => flags.pop().unwrap_or(false),

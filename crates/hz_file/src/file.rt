@@ -44,7 +44,8 @@ impl<'a> Model for File<'a> {
 
 /// The fault of a rule, where there is one.
 fn check(rule: u8, fault: Option<usize>) -> Result<(), Malformed>
-    ensures { MatchOption fault (result ≡ Ok tt) (λ at. result ≡ Err (record { rule = rule; at = at })) }
+    ensures { MatchOption fault (result ≡ Ok tt)
+        (λ at. result ≡ Err (record { rule = rule; at = at })) }
 {
     match fault {
         None => Ok(()),
@@ -58,7 +59,8 @@ impl<'a> File<'a> {
     #[tactic(auto, unfolding(crate::specs::Opening::rule))]
     pub fn open(bytes: &'a [u8]) -> Result<File<'a>, Malformed>
         requires { HasMagic bytes.now }
-        ensures { MatchResult result (λ file. (rule bytes.entry.now ≡ None) × (file ≡ bytes.entry.now))
+        ensures { MatchResult result
+            (λ file. (rule bytes.entry.now ≡ None) × (file ≡ bytes.entry.now))
             (λ fault. rule bytes.entry.now ≡ Some fault) }
     {
         check(1, rules::size_fault(bytes))?;
@@ -132,7 +134,9 @@ impl<'a> File<'a> {
     pub fn function(&self, k: u32) -> FunctionView<'a>
         requires { k < length (module_of self.now).functions }
         ensures shown { slice_get (module_of self.now).functions k
-            ≡ Some (shown_function result.kind result.length result.registers (option_copied result.code)) }
+            ≡ Some
+            (shown_function result.kind result.length result.registers
+            (option_copied result.code)) }
 
         // The code is the part of the file's code section that the header names. A stub has none, but no
         // file with a stub opens yet.

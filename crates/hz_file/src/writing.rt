@@ -47,7 +47,8 @@ fn put_header(
     source: &[u8],
     lengths: Lengths,
 ) -> Result<(), Memory>
-    ensures { let of = header strict lengths.size source.now lengths.texts lengths.code lengths.storage in
+    ensures { let of = header strict lengths.size source.now lengths.texts lengths.code
+        lengths.storage in
         OnOk result (bytes.new.items ≡ bytes.old.items ++ concat of) }
 {
     put_front(bytes, strict, lengths.size)?;
@@ -68,7 +69,8 @@ fn put_header(
 
 /// The header of the script.
 fn put_function_header(bytes: &mut Vec<u8>, registers: u16, code: u16) -> Result<(), Memory>
-    ensures { OnOk result (bytes.new.items ≡ bytes.old.items ++ concat (function_header registers code)) }
+    ensures { OnOk result
+        (bytes.new.items ≡ bytes.old.items ++ concat (function_header registers code)) }
 {
     put(bytes, &[1, 0])?;
     put_u16(bytes, registers)?;
@@ -95,7 +97,8 @@ fn units_in(texts: &Texts) -> usize
 fn put_entries(bytes: &mut Vec<u8>, texts: &Texts) -> Result<(), Memory>
     requires short { All IsShortText texts.now }
     requires storage { length (concat texts.now) ≤ 8388607 }
-    ensures { OnOk result (bytes.new.items ≡ bytes.old.items ++ numbers 4 (entry_words 0 texts.now)) }
+    ensures { OnOk result
+        (bytes.new.items ≡ bytes.old.items ++ numbers 4 (entry_words 0 texts.now)) }
 {
     let mut place: u32 = 0;
     for text in texts.as_slice() {

@@ -60,7 +60,8 @@ impl Model for MemFiles {
 impl MemFiles {
     /// No files. No memory is taken.
     pub fn new(alloc: Global) -> MemFiles
-        ensures { result ≡ record { files = []; calls = 0; failing = []; read_faults = 0; write_faults = 0 } }
+        ensures { result
+            ≡ record { files = []; calls = 0; failing = []; read_faults = 0; write_faults = 0 } }
     {
         MemFiles {
             files: BTreeMap::new(alloc),
@@ -74,7 +75,8 @@ impl MemFiles {
 
     /// Chooses a read or a write that is to fail, by its number, counted from 0. After Memory nothing changed.
     pub fn fail_at(&mut self, call: u64) -> Result<(), Memory>
-        ensures ok { OnOk result (self.new ≡ record self.old { failing = self.old.failing ++ call ∷ [] }) }
+        ensures ok { OnOk result
+            (self.new ≡ record self.old { failing = self.old.failing ++ call ∷ [] }) }
         ensures err { OnErr result (self.new ≡ self.old) }
     {
         self.failing.push(call)?;
@@ -85,7 +87,9 @@ impl MemFiles {
     fn failed_read(&mut self) -> FileFault
         ensures answer { result ≡ FileFault.Failed }
         ensures later { self.old.read_faults ≤ self.new.read_faults }
-        ensures after { self.new ≡ record self.old { calls = next self.old.calls; read_faults = next self.old.read_faults } }
+        ensures after { self.new
+            ≡ record self.old
+            { calls = next self.old.calls; read_faults = next self.old.read_faults } }
     {
         self.calls = self.calls.saturating_add(1);
         self.read_faults = self.read_faults.saturating_add(1);
@@ -113,13 +117,16 @@ impl Files for MemFiles {
 
     fn read(&mut self, alloc: Global, name: &str, max: u64) -> Result<Vec<u8>, FileFault>
         ensures length { IfOk result (λ bytes. length bytes.items ≤ max + 1) }
-        ensures bytes { IfOk result (λ bytes. ReadsFile (Some (file_in self.old.files)) name.now (max + 1) bytes.items) }
+        ensures bytes { IfOk result
+            (λ bytes. ReadsFile (Some (file_in self.old.files)) name.now (max + 1) bytes.items) }
         ensures same { Some (file_in self.new.files) ≡ Some (file_in self.old.files) }
-        ensures cause { HasFileCause (λ _. self.old.read_faults) (λ _. self.new.read_faults) name.now result }
+        ensures cause { HasFileCause (λ _. self.old.read_faults)
+            (λ _. self.new.read_faults) name.now result }
         ensures writes { (q : List ℕ) → self.new.write_faults ≡ self.old.write_faults }
 
         // the exact answer and what follows it
-        ensures fails { IsErrOf result FileFault.Failed ↔ (Contains self.old.failing self.old.calls ⊎ (file_in self.old.files name.now ≡ None)) }
+        ensures fails { IsErrOf result FileFault.Failed ↔ (Contains self.old.failing self.old.calls
+            ⊎ (file_in self.old.files name.now ≡ None)) }
         ensures after { self.new ≡ after_read self.old result }
     {
         if self.failing.contains(&self.calls) {
@@ -136,8 +143,10 @@ impl Files for MemFiles {
     }
 
     fn write(&mut self, name: &str, bytes: &[u8]) -> Result<(), FileFault>
-        ensures bytes { WritesFile (Some (file_in self.old.files)) (Some (file_in self.new.files)) name.now bytes.now result }
-        ensures cause { HasFileCause (λ _. self.old.write_faults) (λ _. self.new.write_faults) name.now result }
+        ensures bytes { WritesFile (Some (file_in self.old.files))
+            (Some (file_in self.new.files)) name.now bytes.now result }
+        ensures cause { HasFileCause (λ _. self.old.write_faults)
+            (λ _. self.new.write_faults) name.now result }
         ensures reads { (q : List ℕ) → self.new.read_faults ≡ self.old.read_faults }
 
         // the exact answer and what follows it; a write that fails changes no file

@@ -54,7 +54,8 @@ impl Model for MemSink {
 impl MemSink {
     /// A stream that has got nothing and has room for `room` bytes, which is taken at once.
     pub fn new(alloc: Global, room: usize) -> Result<MemSink, Memory>
-        ensures { IfOk result (λ sink. sink ≡ record { got = []; room = room; calls = 0; failing = []; faults = 0 }) }
+        ensures { IfOk result
+            (λ sink. sink ≡ record { got = []; room = room; calls = 0; failing = []; faults = 0 }) }
     {
         let bytes = Vec::with_capacity(alloc, room)?;
         Ok(MemSink {
@@ -68,7 +69,8 @@ impl MemSink {
 
     /// Chooses a call of `put` that is to fail, by its number, counted from 0. After Memory nothing changed.
     pub fn fail_at(&mut self, call: u64) -> Result<(), Memory>
-        ensures ok { OnOk result (self.new ≡ record self.old { failing = self.old.failing ++ call ∷ [] }) }
+        ensures ok { OnOk result
+            (self.new ≡ record self.old { failing = self.old.failing ++ call ∷ [] }) }
         ensures err { OnErr result (self.new ≡ self.old) }
     {
         self.failing.push(call)?;
@@ -97,9 +99,18 @@ impl Sink for MemSink {
         ensures cause { HasCause self.old.faults self.new.faults result }
 
         // the exact answer and what follows it
-        ensures fails { IsErr result ↔ (Contains self.old.failing self.old.calls ⊎ (self.old.room < length bytes.now)) }
-        ensures ok { OnOk result (self.new ≡ record self.old { got = self.old.got ++ bytes.now; room = self.old.room - length bytes.now; calls = next self.old.calls }) }
-        ensures err { OnErr result (self.new ≡ record self.old { calls = next self.old.calls; faults = next self.old.faults }) }
+        ensures fails { IsErr result ↔ (Contains self.old.failing self.old.calls
+            ⊎ (self.old.room < length bytes.now)) }
+        ensures ok { OnOk result
+            (self.new
+            ≡ record self.old {
+              got = self.old.got ++ bytes.now;
+              room = self.old.room - length bytes.now;
+              calls = next self.old.calls;
+            }) }
+        ensures err { OnErr result
+            (self.new
+            ≡ record self.old { calls = next self.old.calls; faults = next self.old.faults }) }
     {
         let fails = self.failing.contains(&self.calls) || self.room < bytes.len();
         self.calls = self.calls.saturating_add(1);

@@ -58,7 +58,8 @@ impl MemSource {
     /// A stream that has these bytes left and gives at most `piece` of them in one call. No memory is taken.
     pub fn new(alloc: Global, bytes: Vec<u8>, piece: usize) -> MemSource
         requires { 1 ≤ piece }
-        ensures { result ≡ record { left = bytes.items; piece = piece; calls = 0; failing = []; faults = 0 } }
+        ensures { result
+            ≡ record { left = bytes.items; piece = piece; calls = 0; failing = []; faults = 0 } }
     {
         MemSource {
             bytes,
@@ -72,7 +73,8 @@ impl MemSource {
 
     /// Chooses a call of `take` that is to fail, by its number, counted from 0. After Memory nothing changed.
     pub fn fail_at(&mut self, call: u64) -> Result<(), Memory>
-        ensures ok { OnOk result (self.new ≡ record self.old { failing = self.old.failing ++ call ∷ [] }) }
+        ensures ok { OnOk result
+            (self.new ≡ record self.old { failing = self.old.failing ++ call ∷ [] }) }
         ensures err { OnErr result (self.new ≡ self.old) }
     {
         self.failing.push(call)?;
@@ -97,9 +99,14 @@ impl Source for MemSource {
 
         // the exact answer and what follows it
         ensures fails { IsErr result ↔ Contains self.old.failing self.old.calls }
-        ensures given { IfOk result (λ n. n ≡ min (min self.old.piece (length buf.old)) (length self.old.left)) }
-        ensures ok { IfOk result (λ n. self.new ≡ record self.old { left = drop n self.old.left; calls = next self.old.calls }) }
-        ensures err { OnErr result (self.new ≡ record self.old { calls = next self.old.calls; faults = next self.old.faults }) }
+        ensures given { IfOk result
+            (λ n. n ≡ min (min self.old.piece (length buf.old)) (length self.old.left)) }
+        ensures ok { IfOk result
+            (λ n. self.new
+            ≡ record self.old { left = drop n self.old.left; calls = next self.old.calls }) }
+        ensures err { OnErr result
+            (self.new
+            ≡ record self.old { calls = next self.old.calls; faults = next self.old.faults }) }
     {
         let fails = self.failing.contains(&self.calls);
         self.calls = self.calls.saturating_add(1);

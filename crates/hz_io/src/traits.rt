@@ -31,7 +31,8 @@ pub trait Files {
     /// `Memory` nothing did.
     fn read(&mut self, alloc: Global, name: &str, max: u64) -> Result<Vec<u8>, FileFault>
         ensures length { IfOk result (λ bytes. length bytes.items ≤ max + 1) }
-        ensures bytes { IfOk result (λ bytes. ReadsFile (held self.old) name.now (max + 1) bytes.items) }
+        ensures bytes { IfOk result
+            (λ bytes. ReadsFile (held self.old) name.now (max + 1) bytes.items) }
         ensures same { held self.new ≡ held self.old }
         ensures cause { HasFileCause (read_count self.old) (read_count self.new) name.now result }
         ensures writes { (q : List ℕ) → write_count self.new q ≡ write_count self.old q };

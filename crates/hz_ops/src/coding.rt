@@ -25,7 +25,8 @@ pub fn encode_into(i: &Instr, buf: &mut [u8]) -> usize
     ensures bytes { buf.new ≡ spelling i.now ++ drop (length (spelling i.now)) buf.old }
 
     // What was written is read again, whatever follows.
-    ensures again { (rest : List ℕ) → front (spelling i.now ++ rest) ≡ Some (i.now, length (spelling i.now)) }
+    ensures again { (rest : List ℕ)
+        → front (spelling i.now ++ rest) ≡ Some (i.now, length (spelling i.now)) }
 {
     buf[0] = first_byte(i.long, i.op);
     put_operands(i.op, i.long, i.args.as_slice(), buf)
@@ -37,7 +38,8 @@ pub fn decode(bytes: &[u8], at: usize) -> Option<(Instr, usize)>
     ensures value { result ≡ decode_at bytes.now at }
 
     // What is read is written as the same bytes.
-    ensures written { IfSome result (λ r. IsTrue (fits_of r.0) × (take r.1 (drop at bytes.now) ≡ spelling r.0)) }
+    ensures written { IfSome result
+        (λ r. IsTrue (fits_of r.0) × (take r.1 (drop at bytes.now) ≡ spelling r.0)) }
 {
     instruction_at(bytes, at)
 }
@@ -76,7 +78,8 @@ fn first_byte(long: bool, op: Op) -> u8
 
 /// The operands of this operation in front, and the bytes behind them.
 fn operands_at(op: Op, long: bool, bytes: &[u8]) -> Option<(ArrayVec<Operand, 5>, &[u8])>
-    ensures value { option_map (λ r. (r.0.items, r.1.now)) result ≡ operands_at long (kinds_of op) bytes.now }
+    ensures value { option_map (λ r. (r.0.items, r.1.now)) result
+        ≡ operands_at long (kinds_of op) bytes.now }
     ensures left { IfSome result (λ r. length r.1.now ≤ length bytes.now) }
 {
     macro_rules! read_arms {
@@ -108,7 +111,8 @@ fn put_operands(op: Op, long: bool, args: &[Operand], buf: &mut [u8]) -> usize
     requires fits { IsTrue (operands_fit long (kinds_of op) args.now) }
     requires room { 1 + length (operand_bytes long (kinds_of op) args.now) ≤ length buf.old }
     ensures place { result ≡ 1 + length (operand_bytes long (kinds_of op) args.now) }
-    ensures front { take result buf.new ≡ take 1 buf.old ++ operand_bytes long (kinds_of op) args.now }
+    ensures front { take result buf.new ≡ take 1 buf.old
+        ++ operand_bytes long (kinds_of op) args.now }
     ensures back { drop result buf.new ≡ drop result buf.old }
 {
     macro_rules! write_arms {

@@ -41,7 +41,8 @@ impl Instr {
     pub fn shortest(op: Op, operands: &[Operand]) -> Instr
         requires { length operands.now ≤ 5 }
         ensures value { result ≡ shortest_of op operands.now }
-        ensures fits { operands_fit true (kinds_of op) operands.now ≡ true → IsTrue (fits_of result) }
+        ensures fits { operands_fit true (kinds_of op) operands.now ≡ true
+            → IsTrue (fits_of result) }
     {
         Instr::new(op, !operands_fit(op, false, operands), operands)
     }

@@ -133,7 +133,8 @@ pub(crate) fn put_operand(
     requires fits { IsTrue (operand_fits (size_of long kind) kind operand) }
     requires room { at + byte_count (size_of long kind) ≤ length buf.old }
     ensures place { result ≡ at + byte_count (size_of long kind) }
-    ensures front { take result buf.new ≡ take at buf.old ++ to_le_bytes (width (size_of long kind)) (number_of (size_of long kind) operand) }
+    ensures front { take result buf.new ≡ take at buf.old
+        ++ to_le_bytes (width (size_of long kind)) (number_of (size_of long kind) operand) }
     ensures back { drop result buf.new ≡ drop result buf.old }
 {
     let size = size_of(long, kind);

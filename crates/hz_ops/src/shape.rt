@@ -38,7 +38,8 @@ impl<const N: usize> Shape<N> {
         bytes: &'a [u8],
     ) -> Option<(ArrayVec<Operand, 5>, &'a [u8])>
         requires { N ≤ 5 }
-        ensures value { option_map (λ r. (r.0.items, r.1.now)) result ≡ operands_at long self.now.kinds bytes.entry.now }
+        ensures value { option_map (λ r. (r.0.items, r.1.now)) result
+            ≡ operands_at long self.now.kinds bytes.entry.now }
         ensures left { IfSome result (λ r. length r.1.now ≤ length bytes.entry.now) }
     {
         let mut args = ArrayVec::new();
@@ -55,9 +56,11 @@ impl<const N: usize> Shape<N> {
     pub(crate) fn write(&self, long: bool, args: &[Operand], buf: &mut [u8], start: usize) -> usize
         requires few { N ≤ 5 }
         requires fits { IsTrue (operands_fit long self.now.kinds args.now) }
-        requires room { start + length (operand_bytes long self.now.kinds args.now) ≤ length buf.old }
+        requires room { start + length (operand_bytes long self.now.kinds args.now)
+            ≤ length buf.old }
         ensures place { result ≡ start + length (operand_bytes long self.now.kinds args.now) }
-        ensures front { take result buf.new ≡ take start buf.old ++ operand_bytes long self.now.kinds args.now }
+        ensures front { take result buf.new ≡ take start buf.old
+            ++ operand_bytes long self.now.kinds args.now }
         ensures back { drop result buf.new ≡ drop result buf.old }
     {
         let mut at = start;

@@ -40,7 +40,8 @@ pub fn preparse<'a>(alloc: Global, source: &'a [u8], strict: bool) -> Result<Ind
 #[tactic(auto, unfolding(hz_tree::specs::Refusals::refusal_of))]
 fn check_text(source: &[u8]) -> Result<(), PreFault>
     ensures text { OnOk result (IsText source.now) }
-    ensures refused { IfErr result (λ fault. (strict : Bool) → Refuses (spec.refusal_of source.now strict) fault) }
+    ensures refused { IfErr result
+        (λ fault. (strict : Bool) → Refuses (spec.refusal_of source.now strict) fault) }
 {
     if source.len() > MAX_LENGTH {
         return Err(PreFault::Refused(Refusal::TooLong));

@@ -15,7 +15,8 @@ use std::alloc::Global;
 
 /// Reads a script, and tells the draft of its functions.
 pub fn recognise(alloc: Global, cursor: &mut Cursor<'_>, draft: Draft) -> Result<Draft, PreFault>
-    ensures { Answers (outcome draft (ends (Symbol.Read Nonterminal.Script ∷ []) cursor.old)) result }
+    ensures { Answers (outcome draft (ends (Symbol.Read Nonterminal.Script ∷ []) cursor.old))
+        result }
 {
     let mut draft = draft;
     let mut stack = Stack::new(alloc);

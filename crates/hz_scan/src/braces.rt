@@ -66,7 +66,8 @@ impl Braces {
     }
 
     fn follow_punctuator(&mut self, text: &[u8]) -> Result<(), Memory>
-        ensures ok { OnOk result (self.new ≡ spec.braces_by TokenKind.Punct (slice_index text.now 0) self.old) }
+        ensures ok { OnOk result
+            (self.new ≡ spec.braces_by TokenKind.Punct (slice_index text.now 0) self.old) }
         ensures err { OnErr result (self.new ≡ self.old) }
     {
         match byte(text, 0) {

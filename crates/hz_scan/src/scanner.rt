@@ -86,7 +86,8 @@ fn next_token<'a>(source: &'a [u8], place: usize, hole: bool) -> Token<'a>
     ensures token { lexeme result ≡ token_behind hole source.now place }
     ensures after { place ≤ result.at }
     ensures inside { result.at + length result.text.now ≤ length source.now }
-    ensures slice { result.text.now ≡ slice_range source.now result.at (result.at + length result.text.now) }
+    ensures slice { result.text.now
+        ≡ slice_range source.now result.at (result.at + length result.text.now) }
 {
     let space = gap(place == 0, rest(source, place));
     let at = place + space.len;

@@ -20,7 +20,8 @@ pub const MAX_SOURCE: usize = 4095;
 /// with the length of its longest prefix that begins one. `Memory` comes where memory runs out.
 #[tactic(auto, using(crate::proofs::Ascii::first_below, crate::proofs::Compiling::compiled))]
 pub fn compile_first(alloc: Global, strict: bool, source: &[u8]) -> Result<Vec<u8>, FirstFault>
-    ensures { MatchResult result (λ file. Compiles strict source.now file.items) (λ fault. FaultOf strict source.now fault) }
+    ensures { MatchResult result (λ file. Compiles strict source.now file.items)
+        (λ fault. FaultOf strict source.now fault) }
 {
     if source.len() > MAX_SOURCE {
         return Err(FirstFault::NotYet(MAX_SOURCE));

@@ -77,9 +77,11 @@ pub fn read_first(alloc: Global, strict: bool, source: &[u8]) -> Result<Calls<'_
     ensures alone { IfOk result (λ calls. IsOnly strict calls source.now) }
 
     // A source that spells calls gives these calls.
-    ensures only { (calls : List Argument) → IsFirst strict calls source.now → (result ≡ Ok calls) ⊎ (result ≡ Err FirstFault.Memory) }
+    ensures only { (calls : List Argument) → IsFirst strict calls source.now → (result ≡ Ok calls)
+        ⊎ (result ≡ Err FirstFault.Memory) }
     ensures stuck { (at : ℕ) → result ≡ Err (FirstFault.NotYet at) → IsStuck strict source.now at }
-    ensures place { (at : ℕ) → IsStuck strict source.now at → (result ≡ Err (FirstFault.NotYet at)) ⊎ (result ≡ Err FirstFault.Memory) }
+    ensures place { (at : ℕ) → IsStuck strict source.now at → (result ≡ Err (FirstFault.NotYet at))
+        ⊎ (result ≡ Err FirstFault.Memory) }
 
     // Calls weigh no more than the source has bytes.
     ensures weight { IfOk result (λ calls. weight calls ≤ length source.now) }

@@ -35,12 +35,14 @@ use turn::turn;
 /// than two numbers, a global other than `print`, and a call of anything else.
 pub fn run_first<K: Sink>(alloc: Global, file: &File<'_>, out: &mut K) -> FirstEnd
     requires built { let m = code_module (module_of file.now) in IsBuilt m (start_of m) }
-    ensures outcome { RunsTo (code_module (module_of file.now)) (K.got out.old) (K.got out.new) result }
+    ensures outcome { RunsTo (code_module (module_of file.now)) (K.got out.old)
+        (K.got out.new) result }
     ensures cause { Counts (K.count out.old) (K.count out.new) result }
 
     // Where the code is known to end, the answer is that end.
     ensures agrees { let m = code_module (module_of file.now) in
-        (lines : List (List ℕ)) (end : End) → Ends m (start_of m) lines end → Agrees lines end (K.got out.old) (K.got out.new) result }
+        (lines : List (List ℕ)) (end : End) → Ends m (start_of m) lines end
+        → Agrees lines end (K.got out.old) (K.got out.new) result }
 {
     let (code, count) = code::script(file);
     match code::entered(alloc, count) {
@@ -60,10 +62,13 @@ fn run_code<'a, K: Sink>(
     registers: &mut [Held<'a>],
     out: &mut K,
 ) -> Stop
-    requires built { IsBuilt (code_module (module_of file.now)) (start_of (code_module (module_of file.now))) }
+    requires built { IsBuilt (code_module (module_of file.now))
+        (start_of (code_module (module_of file.now))) }
     requires code { code.now ≡ code_of (code_module (module_of file.now)) 0 }
-    requires entered { map content_of registers.old ≡ (entered (code_module (module_of file.now)) 0).registers }
-    ensures outcome { StopsTo (code_module (module_of file.now)) (K.got out.old) (K.got out.new) result }
+    requires entered { map content_of registers.old
+        ≡ (entered (code_module (module_of file.now)) 0).registers }
+    ensures outcome { StopsTo (code_module (module_of file.now)) (K.got out.old)
+        (K.got out.new) result }
     ensures cause { CountsStop (K.count out.old) (K.count out.new) result }
 {
     let mut place = 0;

@@ -41,7 +41,8 @@ fn digit_of(byte: u8) -> Option<u64>
 
 /// The operator that the byte spells.
 fn operator_of(byte: u8) -> Option<Operator>
-    ensures { MatchOption result ((operator : Operator) → byte ≢ operator_byte operator) (λ operator. byte ≡ operator_byte operator) }
+    ensures { MatchOption result ((operator : Operator) → byte ≢ operator_byte operator)
+        (λ operator. byte ≡ operator_byte operator) }
 {
     if byte == b'+' {
         Some(Operator::Sign(Sign::Plus))
@@ -63,7 +64,8 @@ fn text_step<'a>(
 ) -> Result<State, FirstFault>
     requires place { at < length source.now }
     requires valid { IsState at (State.Text start) }
-    ensures { Stepped (RestText (slice_range source.entry.now start at) calls.old) source.entry.now at (slice_index source.entry.now at) calls.new result }
+    ensures { Stepped (RestText (slice_range source.entry.now start at) calls.old) source.entry.now
+        at (slice_index source.entry.now at) calls.new result }
 {
     let byte = source[at];
     if byte == b'"' {
@@ -85,7 +87,8 @@ fn digit_step(
 ) -> Result<State, FirstFault>
     requires value { IsTrue (is_number value) }
     requires digit { digit < 10 }
-    ensures { (source : List ℕ) (done : List Argument) → Stepped (RestNumber before value done) source at (48 + digit) done result }
+    ensures { (source : List ℕ) (done : List Argument)
+        → Stepped (RestNumber before value done) source at (48 + digit) done result }
 {
     if value == 0 {
         return Err(FirstFault::NotYet(at));
@@ -100,7 +103,8 @@ fn digit_step(
 /// The step over a byte behind a number of a sum, which is no blank. `)` adds the sum to the calls.
 fn sum_step(at: usize, calls: &mut Calls<'_>, sum: Sum, byte: u8) -> Result<State, FirstFault>
     requires { is_blank byte ≡ false }
-    ensures { (source : List ℕ) → Stepped (RestToken [] (Next.Operator sum) calls.old) source at byte calls.new result }
+    ensures { (source : List ℕ)
+        → Stepped (RestToken [] (Next.Operator sum) calls.old) source at byte calls.new result }
 {
     if byte == b')' {
         calls.push(Argument::Sum(sum))?;
@@ -116,7 +120,8 @@ fn sum_step(at: usize, calls: &mut Calls<'_>, sum: Sum, byte: u8) -> Result<Stat
 fn argument_step(at: usize, byte: u8) -> Result<State, FirstFault>
     requires solid { is_blank byte ≡ false }
     requires room { at + 1 < 2 ^ 64 }
-    ensures { (source : List ℕ) (done : List Argument) → Stepped (RestToken [] Next.Argument done) source at byte done result }
+    ensures { (source : List ℕ) (done : List Argument)
+        → Stepped (RestToken [] Next.Argument done) source at byte done result }
 {
     if byte == b'"' {
         return Ok(State::Text(at + 1));
@@ -130,7 +135,8 @@ fn argument_step(at: usize, byte: u8) -> Result<State, FirstFault>
 /// The step over the first byte of a number behind an operator.
 fn number_step(at: usize, sum: Sum, operator: Operator, byte: u8) -> Result<State, FirstFault>
     requires { is_blank byte ≡ false }
-    ensures { (source : List ℕ) (done : List Argument) → Stepped (RestToken [] (Next.Number sum operator) done) source at byte done result }
+    ensures { (source : List ℕ) (done : List Argument)
+        → Stepped (RestToken [] (Next.Number sum operator) done) source at byte done result }
 {
     match digit_of(byte) {
         Some(digit) => Ok(State::Number(Some((sum, operator)), digit)),
@@ -153,7 +159,8 @@ fn advance(at: usize, fits: bool, state: State) -> Result<State, FirstFault>
 fn token_step(at: usize, calls: &mut Calls<'_>, next: Next, byte: u8) -> Result<State, FirstFault>
     requires solid { is_blank byte ≡ false }
     requires room { at + 1 < 2 ^ 64 }
-    ensures { (source : List ℕ) → Stepped (RestToken [] next calls.old) source at byte calls.new result }
+    ensures { (source : List ℕ)
+        → Stepped (RestToken [] next calls.old) source at byte calls.new result }
 {
     match next {
         Next::Call => advance(at, byte == b'p', State::Token(b"rint", Next::Open)),
@@ -169,7 +176,8 @@ fn token_step(at: usize, calls: &mut Calls<'_>, next: Next, byte: u8) -> Result<
 /// The step over a byte behind a token, which may be a blank.
 fn behind_step(at: usize, calls: &mut Calls<'_>, next: Next, byte: u8) -> Result<State, FirstFault>
     requires { at + 1 < 2 ^ 64 }
-    ensures { (source : List ℕ) → Stepped (RestToken [] next calls.old) source at byte calls.new result }
+    ensures { (source : List ℕ)
+        → Stepped (RestToken [] next calls.old) source at byte calls.new result }
 {
     if is_blank_byte(byte) {
         return Ok(State::Token(&[], next));
@@ -188,7 +196,8 @@ fn value_step(
 ) -> Result<State, FirstFault>
     requires room { at + 1 < 2 ^ 64 }
     requires value { IsTrue (is_number value) }
-    ensures { (source : List ℕ) → Stepped (RestNumber before value calls.old) source at byte calls.new result }
+    ensures { (source : List ℕ)
+        → Stepped (RestNumber before value calls.old) source at byte calls.new result }
 {
     match digit_of(byte) {
         Some(digit) => digit_step(at, before, value, digit),
@@ -209,7 +218,8 @@ pub(crate) fn step<'a>(
 ) -> Result<State, FirstFault>
     requires place { at < length source.now }
     requires valid { IsState at state }
-    ensures { Stepped (Rest source.entry.now at state calls.old) source.entry.now at (slice_index source.entry.now at) calls.new result }
+    ensures { Stepped (Rest source.entry.now at state calls.old) source.entry.now at
+        (slice_index source.entry.now at) calls.new result }
 {
     let byte = source[at];
     match state {

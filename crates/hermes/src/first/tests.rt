@@ -136,7 +136,11 @@ fn compiles_to_a_file_that_prints(rt: HostRuntime) -> Result<(), Fail> {
 
 #[test]
 fn compiles_no_other_source(rt: HostRuntime) -> Result<(), Fail> {
-    for (source, stop) in [("\"use strict\";print(1,2);", 20), ("print(1);", 0), ("\"use strict\";a", 13)] {
+    for (source, stop) in [
+        ("\"use strict\";print(1,2);", 20),
+        ("print(1);", 0),
+        ("\"use strict\";a", 13),
+    ] {
         match compile_first(rt.alloc(), false, source.as_bytes()) {
             Err(FirstFault::NotYet(at)) => assert_eq!(rt; at, stop),
             _ => assert!(rt; false),

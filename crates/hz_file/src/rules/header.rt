@@ -70,7 +70,8 @@ pub(crate) fn length_fault(bytes: &[u8]) -> Option<usize>
 /// Where the file ends by the counts and lengths of its header; None where that passes 2 ^ 64.
 fn end(bytes: &[u8]) -> Option<u64>
     requires { 148 ≤ length bytes.now }
-    ensures { MatchOption result (2 ^ 64 ≤ footer_at bytes.now + 20) (λ n. n ≡ footer_at bytes.now + 20) }
+    ensures { MatchOption result (2 ^ 64 ≤ footer_at bytes.now + 20)
+        (λ n. n ≡ footer_at bytes.now + 20) }
 {
     u64_at(bytes, layout::FUNCTION_COUNT)
         .checked_mul(16)?

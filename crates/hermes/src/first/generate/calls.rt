@@ -65,7 +65,8 @@ fn push_text(
     texts: &mut Texts,
 ) -> Result<(), Memory>
     ensures code { OnOk result
-        (code.new.items ≡ code.old.items ++ argument_code (length texts.old) (Argument.Text text.now)) }
+        (code.new.items ≡ code.old.items
+        ++ argument_code (length texts.old) (Argument.Text text.now)) }
     ensures texts { OnOk result (texts.new ≡ texts.old ++ text.now ∷ []) }
 {
     let id = texts.len() as u64;
@@ -102,7 +103,8 @@ pub(crate) fn push_calls(
     texts: &mut Texts,
 ) -> Result<(), Memory>
     requires { IsTrue (list_all is_argument calls.now) }
-    ensures code { OnOk result (code.new.items ≡ code.old.items ++ calls_code (length texts.old) calls.now) }
+    ensures code { OnOk result
+        (code.new.items ≡ code.old.items ++ calls_code (length texts.old) calls.now) }
     ensures texts { OnOk result (texts.new ≡ texts.old ++ flat_map argument_texts calls.now) }
 {
     for argument in calls {

@@ -25,7 +25,8 @@ fn push_number(code: &mut Vec<u8>, to: u64, number: u64) -> Result<(), Memory>
 
 /// Appends code that combines the numbers of two registers in the first of them.
 fn push_operation(code: &mut Vec<u8>, op: Op, to: u64, from: u64) -> Result<(), Memory>
-    requires { let operands = Operand.Register to ∷ Operand.Register to ∷ Operand.Register from ∷ [] in
+    requires { let operands =
+        Operand.Register to ∷ Operand.Register to ∷ Operand.Register from ∷ [] in
         operands_fit true (kinds_of op) operands ≡ true }
     ensures { OnOk result (code.new.items ≡ code.old.items ++ combine op to from) }
 {
@@ -43,7 +44,8 @@ fn push_operation(code: &mut Vec<u8>, op: Op, to: u64, from: u64) -> Result<(), 
 /// Appends code that multiplies the number in a register by each factor.
 fn push_factors(code: &mut Vec<u8>, to: u64, factors: &[u64]) -> Result<(), Memory>
     requires { IsTrue (list_all is_number factors.now) }
-    ensures { OnOk result (code.new.items ≡ code.old.items ++ flat_map (factor_code to) factors.now) }
+    ensures { OnOk result
+        (code.new.items ≡ code.old.items ++ flat_map (factor_code to) factors.now) }
 {
     for number in factors {
         push_number(code, FACTOR, *number)?;

@@ -28,7 +28,8 @@ pub(crate) fn script<'a>(file: &File<'a>) -> (&'a [u8], u64)
 
 /// So many registers, each of which holds undefined.
 pub(crate) fn entered<'a>(alloc: Global, count: u64) -> Result<Vec<Held<'a>>, Memory>
-    ensures { IfOk result (λ registers. map content_of registers.items ≡ replicate count content.Undefined) }
+    ensures { IfOk result
+        (λ registers. map content_of registers.items ≡ replicate count content.Undefined) }
 {
     let mut registers = Vec::with_capacity(alloc, count as usize)?;
     for _ in 0..count {

@@ -18,7 +18,8 @@ use std::alloc::Global;
 
 /// What a register holds; one that is not there is bad code.
 fn held<'r, 'a>(registers: &'r [Held<'a>], r: u64) -> Result<&'r Held<'a>, Stop>
-    ensures { MatchResult result (λ h. slice_get registers.entry.now r ≡ Some h.now) (λ stop. (slice_get registers.entry.now r ≡ None) × (stop ≡ Stop.End FirstEnd.BadCode)) }
+    ensures { MatchResult result (λ h. slice_get registers.entry.now r ≡ Some h.now)
+        (λ stop. (slice_get registers.entry.now r ≡ None) × (stop ≡ Stop.End FirstEnd.BadCode)) }
 {
     registers
         .get(r as usize)
@@ -38,14 +39,18 @@ fn put<'a>(registers: &mut [Held<'a>], r: u64, value: Held<'a>) -> Result<(), St
 
 /// LoadUndefined.
 pub(crate) fn load_undefined(registers: &mut [Held<'_>], r: u64) -> Result<(), Stop>
-    ensures { (place next : ℕ) → IsStep (row.load_undefined next (activation place registers.old) r) result (activation next registers.new) }
+    ensures { (place next : ℕ)
+        → IsStep (row.load_undefined next (activation place registers.old) r) result
+        (activation next registers.new) }
 {
     put(registers, r, Held::Undefined)
 }
 
 /// LoadInt: the integer has to be safe.
 pub(crate) fn load_int(registers: &mut [Held<'_>], r: u64, integer: i64) -> Result<(), Stop>
-    ensures { (place next : ℕ) → IsStep (row.load_int next (activation place registers.old) r integer) result (activation next registers.new) }
+    ensures { (place next : ℕ)
+        → IsStep (row.load_int next (activation place registers.old) r integer) result
+        (activation next registers.new) }
 {
     let number = Safe::new(integer).ok_or(Stop::End(FirstEnd::BadCode))?;
     put(registers, r, Held::Number(number))
@@ -58,7 +63,10 @@ pub(crate) fn load_string<'a>(
     r: u64,
     id: u64,
 ) -> Result<(), Stop>
-    ensures { (place next : ℕ) → IsStep (row.load_string (code_module (module_of file.now)) next (activation place registers.old) r id) result (activation next registers.new) }
+    ensures { (place next : ℕ)
+        → IsStep
+        (row.load_string (code_module (module_of file.now)) next
+        (activation place registers.old) r id) result (activation next registers.new) }
 {
     let text = file.string(id).ok_or(Stop::End(FirstEnd::BadCode))?;
     put(registers, r, Held::Text(text))
@@ -87,7 +95,10 @@ pub(crate) fn load_global<'a>(
     r: u64,
     id: u64,
 ) -> Result<(), Stop>
-    ensures { (place next : ℕ) → IsStep (row.load_global (code_module (module_of file.now)) next (activation place registers.old) r id) result (activation next registers.new) }
+    ensures { (place next : ℕ)
+        → IsStep
+        (row.load_global (code_module (module_of file.now)) next
+        (activation place registers.old) r id) result (activation next registers.new) }
 {
     held(registers, r)?;
     let name = file.string(id).ok_or(Stop::End(FirstEnd::BadCode))?;
@@ -111,7 +122,9 @@ fn operands(registers: &[Held<'_>], r: u64, x: u64, y: u64) -> Result<(Safe, Saf
 /// Puts the number into register r, or leaves where the operator has none.
 fn put_number(registers: &mut [Held<'_>], r: u64, number: Option<Safe>) -> Result<(), Stop>
     requires { r < length registers.old }
-    ensures { (place next : ℕ) → IsStep (row.number_to next (activation place registers.old) r number) result (activation next registers.new) }
+    ensures { (place next : ℕ)
+        → IsStep (row.number_to next (activation place registers.old) r number) result
+        (activation next registers.new) }
 {
     let number = number.ok_or(Stop::End(FirstEnd::Left(Left::NotSafe)))?;
     put(registers, r, Held::Number(number))
@@ -119,7 +132,9 @@ fn put_number(registers: &mut [Held<'_>], r: u64, number: Option<Safe>) -> Resul
 
 /// Add.
 pub(crate) fn add(registers: &mut [Held<'_>], r: u64, x: u64, y: u64) -> Result<(), Stop>
-    ensures { (place next : ℕ) → IsStep (row.arithmetic sum_of next (activation place registers.old) r x y) result (activation next registers.new) }
+    ensures { (place next : ℕ)
+        → IsStep (row.arithmetic sum_of next (activation place registers.old) r x y) result
+        (activation next registers.new) }
 {
     let (a, b) = operands(registers, r, x, y)?;
     put_number(registers, r, hz_value::add(a, b))
@@ -127,7 +142,9 @@ pub(crate) fn add(registers: &mut [Held<'_>], r: u64, x: u64, y: u64) -> Result<
 
 /// Sub.
 pub(crate) fn sub(registers: &mut [Held<'_>], r: u64, x: u64, y: u64) -> Result<(), Stop>
-    ensures { (place next : ℕ) → IsStep (row.arithmetic difference_of next (activation place registers.old) r x y) result (activation next registers.new) }
+    ensures { (place next : ℕ)
+        → IsStep (row.arithmetic difference_of next (activation place registers.old) r x y) result
+        (activation next registers.new) }
 {
     let (a, b) = operands(registers, r, x, y)?;
     put_number(registers, r, hz_value::sub(a, b))
@@ -135,7 +152,9 @@ pub(crate) fn sub(registers: &mut [Held<'_>], r: u64, x: u64, y: u64) -> Result<
 
 /// Mul.
 pub(crate) fn mul(registers: &mut [Held<'_>], r: u64, x: u64, y: u64) -> Result<(), Stop>
-    ensures { (place next : ℕ) → IsStep (row.arithmetic product_of next (activation place registers.old) r x y) result (activation next registers.new) }
+    ensures { (place next : ℕ)
+        → IsStep (row.arithmetic product_of next (activation place registers.old) r x y) result
+        (activation next registers.new) }
 {
     let (a, b) = operands(registers, r, x, y)?;
     put_number(registers, r, hz_value::mul(a, b))
@@ -143,7 +162,9 @@ pub(crate) fn mul(registers: &mut [Held<'_>], r: u64, x: u64, y: u64) -> Result<
 
 /// Return.
 pub(crate) fn return_from(registers: &[Held<'_>], r: u64) -> Result<(), Stop>
-    ensures { (place next : ℕ) → IsStep (row.return_from (activation place registers.now) r) result (activation next registers.now) }
+    ensures { (place next : ℕ)
+        → IsStep (row.return_from (activation place registers.now) r) result
+        (activation next registers.now) }
 {
     held(registers, r)?;
     Err(Stop::End(FirstEnd::Done))
@@ -152,7 +173,11 @@ pub(crate) fn return_from(registers: &[Held<'_>], r: u64) -> Result<(), Stop>
 /// The contents of so many registers in a row; bad code where one of them is not there.
 fn row_at<'r, 'a>(registers: &'r [Held<'a>], first: u64, count: u8) -> Result<&'r [Held<'a>], Stop>
     requires { first < length registers.now }
-    ensures { MatchResult result (λ contents. row.row_at (map content_of registers.entry.now) first count ≡ Some (map content_of contents.now)) (λ stop. (row.row_at (map content_of registers.entry.now) first count ≡ None) × (stop ≡ Stop.End FirstEnd.BadCode)) }
+    ensures { MatchResult result
+        (λ contents. row.row_at (map content_of registers.entry.now) first count
+        ≡ Some (map content_of contents.now))
+        (λ stop. (row.row_at (map content_of registers.entry.now) first count ≡ None)
+        × (stop ≡ Stop.End FirstEnd.BadCode)) }
 {
     let first = first as usize;
     let end = first + count as usize;
@@ -164,7 +189,8 @@ fn row_at<'r, 'a>(registers: &'r [Held<'a>], first: u64, count: u8) -> Result<&'
 
 /// The arguments of a call, which has to be one of `print`.
 fn arguments<'r, 'a>(registers: &'r [Held<'a>], call: CallOperands) -> Result<&'r [Held<'a>], Stop>
-    ensures { MatchResult result (λ contents. CallsPrint registers.entry.now call contents.now) (λ stop. Stops registers.entry.now call stop) }
+    ensures { MatchResult result (λ contents. CallsPrint registers.entry.now call contents.now)
+        (λ stop. Stops registers.entry.now call stop) }
 {
     held(registers, call.result)?;
     let callee = held(registers, call.callee)?;
@@ -183,7 +209,8 @@ pub(crate) fn call(
     registers: &mut [Held<'_>],
     call: CallOperands,
 ) -> Result<String, Stop>
-    ensures { (place next : ℕ) → PrintsLine (called place next registers.old call) result (activation next registers.new) }
+    ensures { (place next : ℕ)
+        → PrintsLine (called place next registers.old call) result (activation next registers.new) }
 {
     let line = line_of(alloc, arguments(registers, call)?)?;
     let bytes = line_bytes(alloc, line.as_slice())?;

@@ -27,7 +27,8 @@ fn silent(step: Result<(), Stop>) -> Result<Option<String>, Stop>
 
 /// A step that prints this line.
 fn spoken(line: Result<String, Stop>) -> Result<Option<String>, Stop>
-    ensures { (n : Next) (a : Activation) → PrintsLine n line a → Steps (next_system [] n) result a }
+    ensures { (n : Next) (a : Activation) → PrintsLine n line a
+        → Steps (next_system [] n) result a }
 {
     let line = line?;
     Ok(Some(line))
@@ -41,7 +42,11 @@ fn row<'a>(
     op: Op,
     operands: &[Operand],
 ) -> Result<Option<String>, Stop>
-    ensures { (place next : ℕ) → Steps (next_system [] (row.row (code_module (module_of file.now)) next (activation place registers.old) operands.now op)) result (activation next registers.new) }
+    ensures { (place next : ℕ)
+        → Steps
+        (next_system []
+        (row.row (code_module (module_of file.now)) next
+        (activation place registers.old) operands.now op)) result (activation next registers.new) }
 {
     match op {
         Op::LoadUndefined => {
@@ -100,7 +105,10 @@ pub(crate) fn step<'a>(
     place: usize,
 ) -> Result<Stepped, Stop>
     requires { code.now ≡ code_of (code_module (module_of file.now)) 0 }
-    ensures step { StepsTo (next_system [] (row.cstep (code_module (module_of file.now)) (activation place registers.old))) result registers.new }
+    ensures step { StepsTo
+        (next_system []
+        (row.cstep (code_module (module_of file.now)) (activation place registers.old))) result
+        registers.new }
     ensures progress { IfOk result (λ step. (place < step.next) × (step.next ≤ length code.now)) }
 {
     let (instruction, length) = decode(code, place).ok_or(Stop::End(FirstEnd::BadCode))?;

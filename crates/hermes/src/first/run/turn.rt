@@ -20,8 +20,12 @@ use std::alloc::Global;
 
 /// Sends the line, if there is one.
 fn send<K: Sink>(out: &mut K, line: &Option<String>) -> Result<(), Stop>
-    ensures bytes { MatchResult result (λ _. Appends (K.got out.old) (K.got out.new) (bytes_of line.now)) (λ stop. (stop ≡ Stop.End FirstEnd.WriteFault) × AppendsPrefix (K.got out.old) (K.got out.new) (bytes_of line.now)) }
-    ensures cause { MatchResult result (λ _. K.count out.new ≡ K.count out.old) (λ _. Rose (K.count out.old) (K.count out.new) × (K.count out.old ≤ K.count out.new)) }
+    ensures bytes { MatchResult result
+        (λ _. Appends (K.got out.old) (K.got out.new) (bytes_of line.now))
+        (λ stop. (stop ≡ Stop.End FirstEnd.WriteFault)
+        × AppendsPrefix (K.got out.old) (K.got out.new) (bytes_of line.now)) }
+    ensures cause { MatchResult result (λ _. K.count out.new ≡ K.count out.old)
+        (λ _. Rose (K.count out.old) (K.count out.new) × (K.count out.old ≤ K.count out.new)) }
 {
     match line {
         None => Ok(()),
@@ -42,7 +46,9 @@ pub(crate) fn turn<'a, K: Sink>(
     out: &mut K,
 ) -> Result<usize, Stop>
     requires { code.now ≡ code_of (code_module (module_of file.now)) 0 }
-    ensures turned { Turned (next_system [] (cstep (code_module (module_of file.now)) (activation place registers.old))) result registers.new (K.got out.old) (K.got out.new) }
+    ensures turned { Turned
+        (next_system [] (cstep (code_module (module_of file.now)) (activation place registers.old)))
+        result registers.new (K.got out.old) (K.got out.new) }
     ensures progress { IfOk result (λ next. (place < next) × (next ≤ length code.now)) }
     ensures cause { CountsTurn (K.count out.old) (K.count out.new) result }
 {
