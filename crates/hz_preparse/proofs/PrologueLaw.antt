@@ -14,7 +14,7 @@ use Rattle.hz_tree.specs.Symbols.{goes, refuses, Value, of_script}
 use Rattle.hz_tree.specs.Reading.{Got, Stuck, takes, reads}
 use Rattle.hz_tree.specs.Text.{Text}
 use Rattle.hz_tree.specs.Places.{place}
-use Rattle.hz_tree.specs.GrammarStatements.{items_row, item_row, statement_by, is_colon, semi_by}
+use Rattle.hz_tree.specs.GrammarStatements.{first_place, items_row, item_row, statement_by, is_colon, semi_by}
 use Rattle.hz_tree.specs.Refusals.{directive, is_use_strict, says_strict, script_items, is_strict}
 use Rattle.hz_preparse.specs.Prologue.{goes_on, is_text, is_semicolon, directs_strict, prologue}
 use Rattle.hz_preparse.proofs.Readings.{RowGives, gives}
@@ -207,4 +207,4 @@ items_of_script at items = search (rules, the_lemmas)
 pub prologue_law : (ts : List Terminal) (tree : Tree) (rest : List Terminal) → reads n.Script ts ≡ Got tree rest → is_strict tree ≡ prologue ts
 prologue_law ts tree rest is =
     gives n.Script (λ tree rest. is_strict tree ≡ prologue ts) ts tree rest (λ parts end all.
-    ap says_strict (items_of_script 0 parts.0) ∙ items_law (length ts) ts parts.0 all.0 (omega arith) all.1.0) is
+    ap says_strict (items_of_script (first_place parts.0 parts.1.0.token.at) parts.0) ∙ items_law (length ts) ts parts.0 all.0 (omega arith) all.1.0) is

@@ -11,7 +11,8 @@ use crate::follow::goes_on;
 use hz_cursor::class_of;
 use hz_scan::{Braces, Scanner};
 use hz_tree::{Class, Token};
-use std::alloc::{AllocError, Global};
+use hz_value::Memory;
+use std::alloc::Global;
 
 /// What the next token tells of the directives.
 #[derive(Clone, Copy, Debug)]
@@ -26,7 +27,7 @@ pub enum Heard {
 
 /// Whether one of the directives in front of the source says "use strict" (ECMA-262, 11.2.1).
 #[tactic(auto, unfolding(hz_tree::specs::Look::terminals))]
-pub fn says_strict(alloc: Global, source: &[u8]) -> Result<bool, AllocError>
+pub fn says_strict(alloc: Global, source: &[u8]) -> Result<bool, Memory>
     ensures { IfOk result (λ strict. strict ≡ prologue (terminals source.now)) }
 {
     let mut scanner = Scanner::new(source);

@@ -2,7 +2,8 @@ ghost use Rattle.std.specs.Prelude.{◌≡◌};
 ghost use Rattle.hz_tree.specs.Drafts.{change, counted, ended};
 
 use hz_tree::{FunctionInfo, FunctionInfos, FunctionKind};
-use std::alloc::{AllocError, Global};
+use hz_value::Memory;
+use std::alloc::Global;
 use std::marker::Model;
 
 /// The functions that begin before a place, as far as they are known there.
@@ -29,7 +30,7 @@ impl Draft {
     ghost use Rattle.hz_tree.specs.Drafts.{happens, begun, innermost as innermost_of};
 
     /// The script alone.
-    pub fn new(alloc: Global, source: &[u8]) -> Result<Draft, AllocError>
+    pub fn new(alloc: Global, source: &[u8]) -> Result<Draft, Memory>
         ensures { IfOk result (λ draft. draft ≡ begun source.now) }
     {
         let mut functions = FunctionInfos::new(alloc);
@@ -46,7 +47,7 @@ impl Draft {
     }
 
     /// A function starts at a place. Its end is set when it ends.
-    pub fn open(&mut self, kind: FunctionKind, at: usize) -> Result<(), AllocError>
+    pub fn open(&mut self, kind: FunctionKind, at: usize) -> Result<(), Memory>
         ensures { OnOk result (self.new ≡ happens self.old (Opened kind at)) }
     {
         let number = self.functions.len();
@@ -58,7 +59,8 @@ impl Draft {
             kind,
             length: 0,
             parent,
-        })
+        })?;
+        Ok(())
     }
 
     /// The innermost function has one more parameter.

@@ -1,6 +1,5 @@
 use hz_tree::Refusal;
 use hz_value::Memory;
-use std::alloc::AllocError;
 
 /// Why a source has no index.
 #[derive(Clone, Copy, Debug, PartialEq, Eq)]
@@ -19,17 +18,6 @@ impl From<Memory> for PreFault {
     ghost from_gives = { λ _ fault. fault ≡ wanting };
 
     fn from(_memory: Memory) -> PreFault {
-        PreFault::Memory
-    }
-}
-
-impl From<AllocError> for PreFault {
-    ghost use Rattle.std.specs.Prelude.{◌≡◌};
-    ghost use Rattle.hz_preparse.specs.declared.fault.PreFault.TheVariants.{Memory as wanting};
-
-    ghost from_gives = { λ _ fault. fault ≡ wanting };
-
-    fn from(_error: AllocError) -> PreFault {
         PreFault::Memory
     }
 }

@@ -10,7 +10,8 @@ use crate::fault::PreFault;
 use crate::recogniser::recognise;
 use hz_cursor::Cursor;
 use hz_tree::{FunctionInfos, Index, Refusal};
-use std::alloc::{AllocError, Global};
+use hz_value::Memory;
+use std::alloc::Global;
 
 const MAX_LENGTH: usize = 16_777_215;
 
@@ -63,7 +64,7 @@ fn functions_of(alloc: Global, source: &[u8]) -> Result<FunctionInfos, PreFault>
     Ok(read.into_functions())
 }
 
-fn is_strict(alloc: Global, source: &[u8], strict: bool) -> Result<bool, AllocError>
+fn is_strict(alloc: Global, source: &[u8], strict: bool) -> Result<bool, Memory>
     ensures { IfOk result (λ answer. answer ≡ (strict || prologue (terminals source.now))) }
 {
     if strict {
