@@ -1,5 +1,6 @@
 //! Short sources with their answers, deep ones, and long ones.
 
+mod asynchronous;
 mod directives;
 mod expressions;
 mod extents;
@@ -9,10 +10,14 @@ mod items;
 mod left_hand_sides;
 mod left_out;
 mod operators;
+mod patterns;
 mod primaries;
 mod properties;
+mod regular_expressions;
 mod semicolons;
 mod statements;
+mod templates;
+mod words;
 
 use crate::{PreFault, preparse};
 use hz_tree::{FunctionInfo, FunctionKind, Index};
@@ -153,6 +158,51 @@ fn reads_functions(rt: HostRuntime) -> io::Result<()> {
 fn refuses_what_is_left_out(rt: HostRuntime) -> io::Result<()> {
     check_answers(&rt, true, &left_out::READ, "read")?;
     check_stuck(&rt, true, &left_out::STUCK)
+}
+
+#[test]
+fn refuses_asynchronous_functions(rt: HostRuntime) -> io::Result<()> {
+    check_answers(&rt, true, &asynchronous::READ, "read")?;
+    check_stuck(&rt, true, &asynchronous::STUCK)
+}
+
+#[test]
+fn refuses_regular_expressions(rt: HostRuntime) -> io::Result<()> {
+    check_stuck(&rt, true, &regular_expressions::STUCK)
+}
+
+#[test]
+fn refuses_tagged_templates(rt: HostRuntime) -> io::Result<()> {
+    check_answers(&rt, true, &templates::READ, "read")?;
+    check_stuck(&rt, true, &templates::STUCK)
+}
+
+#[test]
+fn refuses_patterns(rt: HostRuntime) -> io::Result<()> {
+    check_stuck(&rt, true, &patterns::STUCK)
+}
+
+/// All reserved words in one source.
+fn with_words(alloc: Global, front: &str, between: &str, behind: &str) -> io::Result<String> {
+    let mut all = String::new(alloc);
+    let mut before = front;
+    for word in words::WORDS {
+        all.push_str(before)?;
+        all.push_str(word)?;
+        before = between;
+    }
+    all.push_str(behind)?;
+    Ok(all)
+}
+
+#[test]
+fn reads_words(rt: HostRuntime) -> io::Result<()> {
+    for (front, between, behind) in words::READ {
+        let source = with_words(rt.alloc(), front, between, behind)?;
+        let found = answer(rt.alloc(), source.as_bytes(), true)?;
+        assert_eq!(rt; found.as_str(), "read", "of {source:?}");
+    }
+    check_stuck(&rt, true, &words::STUCK)
 }
 
 #[test]

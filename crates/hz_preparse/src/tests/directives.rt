@@ -1,7 +1,7 @@
 //! Sources that are read as strict code only where they say so.
 
 /// Sources that say that they are strict code.
-pub const STRICT: [&str; 17] = [
+pub const STRICT: [&str; 20] = [
     "'use strict'",
     "\"use strict\"",
     "'use strict';",
@@ -19,10 +19,13 @@ pub const STRICT: [&str; 17] = [
     "'a'\n\"use strict\"; 'b' + c",
     "'use strict'\n!a",
     "'use strict'\n{}",
+    "'\\n'; 'use strict'",
+    "'use strict' // c",
+    "#!x\n'use strict'",
 ];
 
 /// Sources that do not.
-pub const SLOPPY: [&str; 35] = [
+pub const SLOPPY: [&str; 42] = [
     "",
     "a",
     "('use strict')",
@@ -58,6 +61,13 @@ pub const SLOPPY: [&str; 35] = [
     "'a'; b; 'use strict'",
     "!'use strict'",
     "`use strict`",
+    "'a';; 'use strict'",
+    "\"use\\u0020strict\"",
+    "'use str\\\nict'",
+    "('a'); 'use strict'",
+    "function f(){}'use strict'",
+    "'use strict'\nin a",
+    "'use strict'\n?.a",
 ];
 
 /// Sources in two parts, where the grammar is stuck at the second part: that counts first.

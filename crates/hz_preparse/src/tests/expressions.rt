@@ -1,7 +1,7 @@
 //! Commas, assignments, arrows, `yield` and `?`.
 
 /// Sources that are read.
-pub const READ: [&str; 64] = [
+pub const READ: [&str; 68] = [
     "a, b, c",
     "a = b = c",
     "a = 1",
@@ -66,10 +66,14 @@ pub const READ: [&str; 64] = [
     "a ? b ? c : d : e",
     "a ? b = c : d = e",
     "a = b ? c : d",
+    "a ? (b) : c => d",
+    "a ? (b) => (c) : d => e",
+    "function* f(){ switch (a) { case yield: } }",
+    "function* f(){ ({*[yield](){}}) }",
 ];
 
 /// Sources in two parts, where the grammar is stuck at the second part, and why.
-pub const STUCK: [(&str, &str, &str); 62] = [
+pub const STUCK: [(&str, &str, &str); 69] = [
     ("a, ", "", "Syntax"),
     ("a = ", "", "Syntax"),
     ("a = ", ";", "Syntax"),
@@ -132,4 +136,11 @@ pub const STUCK: [(&str, &str, &str); 62] = [
     ("a ? b : ", "", "Syntax"),
     ("a ? b : c ", ": d", "Syntax"),
     ("a ? ", "", "Syntax"),
+    ("function* f(){ yield ", "=> a }", "Syntax"),
+    ("function* f(){ yield", ": a }", "Syntax"),
+    ("function* f(){ a => { ", "yield } }", "Syntax"),
+    ("a || (b) ", "=> c", "Syntax"),
+    ("!(a) ", "=> b", "Syntax"),
+    ("a => {} ", "= b", "Syntax"),
+    ("a => {} ", "[b]", "Syntax"),
 ];

@@ -16,7 +16,7 @@ pub const READ: [&str; 11] = [
 ];
 
 /// Sources in two parts, where the grammar is stuck at the second part, and why.
-pub const STUCK: [(&str, &str, &str); 31] = [
+pub const STUCK: [(&str, &str, &str); 33] = [
     ("function f(", ",){}", "Syntax"),
     ("function f(a ", "b){}", "Syntax"),
     ("function f(a,", ",b){}", "Syntax"),
@@ -29,6 +29,8 @@ pub const STUCK: [(&str, &str, &str); 31] = [
     ("function f(", "if){}", "Syntax"),
     ("function ", "if(){}", "Syntax"),
     ("function f(a) ", "=> b", "Syntax"),
+    ("function* f(", "yield){}", "Syntax"),
+    ("(function* ", "yield(){})", "Syntax"),
     ("function f(a ", "= 1){}", "Outside(DefaultParameter)"),
     ("function f(...a ", "= 1){}", "Outside(DefaultParameter)"),
     ("({set a(b ", "= 1){}})", "Outside(DefaultParameter)"),

@@ -1,7 +1,7 @@
 //! The heads of `for` statements.
 
 /// Sources that are read.
-pub const READ: [&str; 58] = [
+pub const READ: [&str; 71] = [
     "for (;;) ;",
     "for (a;;) ;",
     "for (a; b; c) ;",
@@ -60,10 +60,23 @@ pub const READ: [&str; 58] = [
     "for (let async of a) ;",
     "function* f(){ for (yield;;) ; }",
     "function* f(){ for (var a of yield) ; }",
+    "for ((a) of b) ;",
+    "for ((a) => b;;) ;",
+    "for ((a in b) of c) ;",
+    "for ([a in b] of c) ;",
+    "for ({[a in b]: c}.d in e) ;",
+    "for (a?.[b in c];;) ;",
+    "for (new a[b in c];;) ;",
+    "for (new a(b in c);;) ;",
+    "for (() => a ? b in c : d;;) ;",
+    "for (var a = b ? c in d : e;;) ;",
+    "for (let of;;) ;",
+    "for (let of = 1;;) ;",
+    "function* f(){ for (;yield;yield) ; }",
 ];
 
 /// Sources in two parts, where the grammar is stuck at the second part, and why.
-pub const STUCK: [(&str, &str, &str); 39] = [
+pub const STUCK: [(&str, &str, &str); 51] = [
     ("for (", ") ;", "Syntax"),
     ("for (a", ") ;", "Syntax"),
     ("for (;", ") ;", "Syntax"),
@@ -103,4 +116,20 @@ pub const STUCK: [(&str, &str, &str); 39] = [
     ("for (a = b ", "of c) ;", "Syntax"),
     ("for (-a ", "of b) ;", "Syntax"),
     ("function* f(){ for (yield ", "in a;;) ; }", "Syntax"),
+    ("for (const ", "1 of a) ;", "Syntax"),
+    ("for (let ", "in a) ;", "Syntax"),
+    ("for (let of ", "b) ;", "Syntax"),
+    ("for (a => { b in c } ", "in d;;) ;", "Syntax"),
+    ("for ((a) => b ", "in c;;) ;", "Syntax"),
+    ("for (a = b ? c : d ", "in e;;) ;", "Syntax"),
+    ("for (a => b ", "of c) ;", "Syntax"),
+    ("for (a in b ", "of c) ;", "Syntax"),
+    ("for (a, b ", "in c;;) ;", "Syntax"),
+    ("for (", "yield;;) ;", "Syntax"),
+    ("function* f(){ for (yield of ", "a) ; }", "Syntax"),
+    (
+        "function* f(){ for (var a = yield ",
+        "in b;;) ; }",
+        "Syntax",
+    ),
 ];

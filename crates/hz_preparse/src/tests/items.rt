@@ -18,7 +18,7 @@ pub const READ: [&str; 13] = [
 ];
 
 /// Sources in two parts, where the grammar is stuck at the second part, and why.
-pub const STUCK: [(&str, &str, &str); 25] = [
+pub const STUCK: [(&str, &str, &str); 26] = [
     ("function ", "(){}", "Syntax"),
     ("function* ", "(){}", "Syntax"),
     ("function f", "{}", "Syntax"),
@@ -32,6 +32,7 @@ pub const STUCK: [(&str, &str, &str); 25] = [
     ("let ", "let", "Syntax"),
     ("const ", "if", "Syntax"),
     ("const a = 1, ", "", "Syntax"),
+    ("const a = 1 ", "b", "Syntax"),
     ("", "}", "Syntax"),
     ("", "case 1:", "Syntax"),
     ("", "default:", "Syntax"),

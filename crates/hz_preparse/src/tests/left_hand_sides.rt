@@ -51,7 +51,7 @@ pub const READ: [&str; 46] = [
 ];
 
 /// Sources in two parts, where the grammar is stuck at the second part, and why.
-pub const STUCK: [(&str, &str, &str); 38] = [
+pub const STUCK: [(&str, &str, &str); 42] = [
     ("a.", "", "Syntax"),
     ("a", ".1", "Outside(NumberForm)"),
     ("a. ", "1", "Syntax"),
@@ -90,4 +90,8 @@ pub const STUCK: [(&str, &str, &str); 38] = [
     ("", "?.a", "Syntax"),
     ("", ".a", "Syntax"),
     ("", "]", "Syntax"),
+    ("new new ", "", "Syntax"),
+    ("new new a", "?.b", "Syntax"),
+    ("new new.target", "?.a", "Syntax"),
+    ("a?.", "'b'", "Syntax"),
 ];

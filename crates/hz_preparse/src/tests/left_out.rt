@@ -17,7 +17,7 @@ pub const READ: [&str; 12] = [
 ];
 
 /// Sources in two parts, where the grammar is stuck at the second part, and why.
-pub const STUCK: [(&str, &str, &str); 111] = [
+pub const STUCK: [(&str, &str, &str); 129] = [
     ("", "class A {}", "Outside(Class)"),
     ("(", "class {})", "Outside(Class)"),
     ("a ", "class", "Outside(Class)"),
@@ -129,4 +129,22 @@ pub const STUCK: [(&str, &str, &str); 111] = [
     ("", "€", "Outside(Character)"),
     ("a ", "→ b", "Outside(Character)"),
     ("a = ", "€", "Outside(Character)"),
+    ("", "import.meta", "Outside(Module)"),
+    ("new ", "import('a')", "Outside(Module)"),
+    ("", "super()", "Outside(Super)"),
+    ("new ", "super.a", "Outside(Super)"),
+    ("({get ", "1n(){}})", "Outside(BigInt)"),
+    ("a\n", "1n", "Outside(BigInt)"),
+    ("a\n", "1.5", "Outside(NumberForm)"),
+    ("a?.", "#b", "Outside(PrivateName)"),
+    ("({", "#a: 1})", "Outside(PrivateName)"),
+    ("let ", "#a", "Outside(PrivateName)"),
+    ("a\n", "#b", "Outside(PrivateName)"),
+    ("var ", "\\u0061", "Outside(IdentifierEscape)"),
+    ("({", "\\u0061: 1})", "Outside(IdentifierEscape)"),
+    ("a?.", "\\u0062", "Outside(IdentifierEscape)"),
+    ("a\r", "--> b", "Outside(HtmlComment)"),
+    ("a\u{2028}", "--> b", "Outside(HtmlComment)"),
+    ("a\u{2029}", "--> b", "Outside(HtmlComment)"),
+    ("a\n", "€", "Outside(Character)"),
 ];

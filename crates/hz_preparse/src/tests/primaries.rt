@@ -49,7 +49,7 @@ pub const READ: [&str; 44] = [
 ];
 
 /// Sources in two parts, where the grammar is stuck at the second part, and why.
-pub const STUCK: [(&str, &str, &str); 37] = [
+pub const STUCK: [(&str, &str, &str); 39] = [
     ("(", "", "Syntax"),
     ("(a", "", "Syntax"),
     ("(a ", "b)", "Syntax"),
@@ -58,6 +58,8 @@ pub const STUCK: [(&str, &str, &str); 37] = [
     ("[a ", "b]", "Syntax"),
     ("[...", "]", "Syntax"),
     ("[a, ", "", "Syntax"),
+    ("[,", "", "Syntax"),
+    ("[, a ", "b]", "Syntax"),
     ("`${", "}`", "Syntax"),
     ("`${a", "", "Syntax"),
     ("`${a ", "b}`", "Syntax"),

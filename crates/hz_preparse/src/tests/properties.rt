@@ -54,7 +54,7 @@ pub const READ: [&str; 49] = [
 ];
 
 /// Sources in two parts, where the grammar is stuck at the second part, and why.
-pub const STUCK: [(&str, &str, &str); 36] = [
+pub const STUCK: [(&str, &str, &str); 37] = [
     ("({", "", "Syntax"),
     ("({a", "", "Syntax"),
     ("({a}", "", "Syntax"),
@@ -87,6 +87,7 @@ pub const STUCK: [(&str, &str, &str); 36] = [
     ("({set a(b", ", c){}})", "Syntax"),
     ("({set a(", "...b){}})", "Syntax"),
     ("({set a(b)", "})", "Syntax"),
+    ("({set ", "*a(b){}})", "Syntax"),
     ("({...", "})", "Syntax"),
     ("({a: b ", "c})", "Syntax"),
     ("({a ", "= 1})", "Outside(Pattern)"),

@@ -1,0 +1,30 @@
+//! Patterns and default values, and where the grammar has no place for either.
+
+/// Sources in two parts, where the grammar is stuck at the second part, and why.
+pub const STUCK: [(&str, &str, &str); 25] = [
+    ("const ", "{a} = b", "Outside(Pattern)"),
+    ("var ", "[a] = b", "Outside(Pattern)"),
+    ("for (const ", "[a] of b) ;", "Outside(Pattern)"),
+    ("for (const ", "{a} of b) ;", "Outside(Pattern)"),
+    ("for (var ", "{a} in b) ;", "Outside(Pattern)"),
+    ("for (let a, ", "[b] = c;;) ;", "Outside(Pattern)"),
+    ("function* ", "{}", "Outside(Pattern)"),
+    ("function f(...", "{a}){}", "Outside(Pattern)"),
+    ("({*a(", "[b]){}})", "Outside(Pattern)"),
+    ("({a(", "{b}){}})", "Outside(Pattern)"),
+    ("({get ", "= 1})", "Outside(Pattern)"),
+    ("({set ", "= 1})", "Outside(Pattern)"),
+    ("({async ", "= 1})", "Outside(Pattern)"),
+    ("for ({a ", "= 1} of b) ;", "Outside(Pattern)"),
+    ("({'a' ", "= 1})", "Syntax"),
+    ("({if ", "= 1})", "Syntax"),
+    ("({1 ", "= 1})", "Syntax"),
+    ("({[a] ", "= 1})", "Syntax"),
+    ("({a ", "+= 1})", "Syntax"),
+    ("(function ", "{a}(){})", "Syntax"),
+    ("(function* ", "[a](){})", "Syntax"),
+    ("(a, b ", "= 1) => c", "Outside(DefaultParameter)"),
+    ("({*a(b ", "= 1){}})", "Outside(DefaultParameter)"),
+    ("try {} catch (e ", "= 1) {}", "Syntax"),
+    ("({get a(", "b = 1){}})", "Syntax"),
+];
