@@ -9,7 +9,7 @@ mod spaces;
 use crate::{Scanner, list_tokens};
 use hz_tree::{BadKind, OutsideKind, Token, TokenKind};
 use std::alloc::Global;
-use std::io;
+use std::test::Fail;
 use std::process::Abort;
 
 fn name_of(cause: BadKind) -> &'static str {
@@ -35,7 +35,7 @@ fn template_part(first: bool, last: bool) -> &'static str {
 }
 
 /// `^` where the newline mark stands, what the token is, and its text, or its place where it is the last one.
-fn shown(alloc: Global, token: &Token<'_>) -> io::Result<String> {
+fn shown(alloc: Global, token: &Token<'_>) -> Result<String, Fail> {
     let mark = if token.newline { "^" } else { "" };
     let text = std::str::from_utf8(token.text).unwrap_or("?");
     let at = token.at;
@@ -60,7 +60,7 @@ fn shown(alloc: Global, token: &Token<'_>) -> io::Result<String> {
     Ok(line)
 }
 
-fn shown_tokens(alloc: Global, source: &str) -> io::Result<String> {
+fn shown_tokens(alloc: Global, source: &str) -> Result<String, Fail> {
     let mut all = String::new(alloc);
     for token in list_tokens(alloc, source.as_bytes())?.iter() {
         if !all.is_empty() {
@@ -71,7 +71,7 @@ fn shown_tokens(alloc: Global, source: &str) -> io::Result<String> {
     Ok(all)
 }
 
-fn check(rt: &(impl Abort + AllocGlobal), rows: &[(&str, &str)]) -> io::Result<()> {
+fn check(rt: &(impl Abort + AllocGlobal), rows: &[(&str, &str)]) -> Result<(), Fail> {
     for (source, tokens) in rows {
         let shown = shown_tokens(rt.alloc(), source)?;
         assert_eq!(rt; shown.as_str(), *tokens, "of {source:?}");
@@ -80,34 +80,34 @@ fn check(rt: &(impl Abort + AllocGlobal), rows: &[(&str, &str)]) -> io::Result<(
 }
 
 #[test]
-fn scans_spaces(rt: HostRuntime) -> io::Result<()> {
+fn scans_spaces(rt: HostRuntime) -> Result<(), Fail> {
     check(&rt, &spaces::ROWS)?;
     check(&rt, &spaces::HTML_COMMENTS)
 }
 
 #[test]
-fn scans_names(rt: HostRuntime) -> io::Result<()> {
+fn scans_names(rt: HostRuntime) -> Result<(), Fail> {
     check(&rt, &names::ROWS)
 }
 
 #[test]
-fn scans_numbers(rt: HostRuntime) -> io::Result<()> {
+fn scans_numbers(rt: HostRuntime) -> Result<(), Fail> {
     check(&rt, &numbers::ROWS)
 }
 
 #[test]
-fn scans_literals(rt: HostRuntime) -> io::Result<()> {
+fn scans_literals(rt: HostRuntime) -> Result<(), Fail> {
     check(&rt, &literals::TEXTS)?;
     check(&rt, &literals::TEMPLATES)
 }
 
 #[test]
-fn scans_punctuators(rt: HostRuntime) -> io::Result<()> {
+fn scans_punctuators(rt: HostRuntime) -> Result<(), Fail> {
     check(&rt, &punctuators::ROWS)
 }
 
 #[test]
-fn from_a_place(rt: HostRuntime) -> io::Result<()> {
+fn from_a_place(rt: HostRuntime) -> Result<(), Fail> {
     for (source, place, hole, first) in [
         ("a\n-->b", 0, false, "n:a"),
         ("a\n-->b", 1, false, "^HtmlComment@2"),
@@ -127,7 +127,7 @@ fn from_a_place(rt: HostRuntime) -> io::Result<()> {
 }
 
 #[test]
-fn last_token_again(rt: HostRuntime) -> io::Result<()> {
+fn last_token_again(rt: HostRuntime) -> Result<(), Fail> {
     for (source, last) in ["\n ", "\n}\\1`", "\n@"]
         .iter()
         .zip(["^end@2", "^Syntax@1", "^Syntax@1"])

@@ -44,7 +44,7 @@ fn main(rt: HostRuntime) -> io::Result<()> {
     let mut tokens = 0;
     for _ in 0..rounds {
         for source in &sources {
-            tokens = count_tokens(rt.alloc(), source)?;
+            tokens = count_tokens(rt.alloc(), source).map_err(|_| io::ErrorKind::OutOfMemory)?;
         }
     }
     println!(rt; "{tokens} tokens")
