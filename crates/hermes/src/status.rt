@@ -1,6 +1,6 @@
 // How a call of the command ends: its status, the code that the process ends with, and the line on standard error.
 
-ghost use Rattle.std.specs.Prelude.{◌≡◌, ℕ, ◌+◌, ◌≤◌, List, [], ◌∷◌, ◌++◌, codes, decimal, length};
+ghost use Rattle.std.specs.Prelude.{◌≡◌, ◌+◌, ◌≤◌, [], ◌∷◌, ◌++◌, codes, decimal, length};
 ghost use Rattle.hz_tree.specs.Shown.{name_of_kind, text_of_refusal};
 ghost use Rattle.hermes.specs.Statuses.{code_of, line_of};
 

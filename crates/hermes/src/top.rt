@@ -1,6 +1,6 @@
 // The command: reads its words, reads the source, compiles and runs it, and tells how that ended.
 
-ghost use Rattle.std.specs.Prelude.{◌≡◌, ◌⊎◌, ◌≤◌, ℕ, List, length, Some, None, Ok, map, string_bytes};
+ghost use Rattle.std.specs.Prelude.{◌≡◌, ℕ, List, length, Some, None, Ok, map, string_bytes};
 ghost use Rattle.hz_io.specs.Causes.{Rose};
 ghost use Rattle.hermes.specs.Effects.{WriteCause, GetsLine};
 ghost use Rattle.hermes.specs.Outcomes.{OutcomeOf};

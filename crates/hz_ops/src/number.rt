@@ -1,5 +1,5 @@
 // Numbers as bytes, the lowest byte first.
-ghost use Rattle.std.specs.Prelude.{◌≡◌, ℕ, ◌+◌, ◌*◌, ◌^◌, ◌<◌, ◌≤◌, ◌++◌, length, take, drop, option_map, IfSome};
+ghost use Rattle.std.specs.Prelude.{◌≡◌, ◌+◌, ◌*◌, ◌^◌, ◌<◌, ◌≤◌, ◌++◌, length, take, drop, option_map, IfSome};
 ghost use Rattle.std.specs.Int.{to_le_bytes};
 ghost use Rattle.hz_ops.specs.Sizes.{width, byte_count, number_at};
 

@@ -1,5 +1,5 @@
 // One operand: its bytes, and the operand that bytes stand for.
-ghost use Rattle.std.specs.Prelude.{◌≡◌, ℕ, ◌+◌, ◌*◌, ◌^◌, ◌<◌, ◌≤◌, ◌++◌, length, take, drop, IsTrue, option_map};
+ghost use Rattle.std.specs.Prelude.{◌≡◌, ◌+◌, ◌*◌, ◌^◌, ◌<◌, ◌≤◌, ◌++◌, length, take, drop, IsTrue, option_map};
 ghost use Rattle.std.specs.Int.{to_le_bytes, cast_signed, cast_unsigned};
 ghost use Rattle.hz_ops.specs.Sizes.{width, byte_count};
 ghost use Rattle.hz_ops.specs.Coding.{size_of, operand_of, number_of, unsigned_fits, signed_fits, operand_fits, operand_at};

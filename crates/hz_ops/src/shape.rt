@@ -1,5 +1,5 @@
 // The shape of an operation: the kinds of its operands.
-ghost use Rattle.std.specs.Prelude.{◌≡◌, ℕ, ◌+◌, ◌*◌, ◌≤◌, ◌++◌, length, take, drop, IsTrue, IfSome, option_map};
+ghost use Rattle.std.specs.Prelude.{◌≡◌, ◌+◌, ◌*◌, ◌≤◌, ◌++◌, length, take, drop, IsTrue, IfSome, option_map};
 ghost use Rattle.hz_ops.specs.Coding.{operands_at, operands_fit, operand_bytes};
 
 use crate::op::{Operand, OperandKind};

@@ -1,6 +1,6 @@
 //! String literals and templates.
 
-ghost use Rattle.std.specs.Prelude.{◌≡◌, ◌<◌, ◌≤◌, ◌+◌, length, true, codes, slice_index, ◌≢◌};
+ghost use Rattle.std.specs.Prelude.{◌≡◌, ◌≤◌, ◌+◌, length, true, codes, slice_index, ◌≢◌};
 ghost use Rattle.hz_tree.specs.Text.{begins};
 ghost use Rattle.hz_tree.specs.Literals as spec;
 

@@ -1,6 +1,6 @@
 //! Punctuators, by their first byte.
 
-ghost use Rattle.std.specs.Prelude.{◌≡◌, ◌≢◌, ◌<◌, ◌≤◌, length};
+ghost use Rattle.std.specs.Prelude.{◌≡◌, ◌<◌, ◌≤◌, length};
 ghost use Rattle.hz_tree.specs.Punctuators as spec;
 ghost use Rattle.hz_scan.specs.Reach.{Reaches};
 

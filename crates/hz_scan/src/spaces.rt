@@ -1,6 +1,6 @@
 //! White space, line terminators and comments.
 
-ghost use Rattle.std.specs.Prelude.{◌≡◌, ◌<◌, ◌≤◌, ◌+◌, ◌^◌, length, true};
+ghost use Rattle.std.specs.Prelude.{◌≡◌, ◌<◌, ◌≤◌, ◌+◌, length, true};
 ghost use Rattle.hz_tree.specs.Spaces as spec;
 
 use crate::bytes::{byte, rest};

@@ -9,8 +9,8 @@ mod spaces;
 use crate::{Scanner, list_tokens};
 use hz_tree::{BadKind, OutsideKind, Token, TokenKind};
 use std::alloc::Global;
-use std::test::Fail;
 use std::process::Abort;
+use std::test::Fail;
 
 fn name_of(cause: BadKind) -> &'static str {
     match cause {

@@ -4,7 +4,6 @@ ghost use Rattle.std.specs.Prelude.{
   IfOk,
   IfSome,
   reverse,
-  length,
   Option,
   option_map,
   pos,
@@ -16,9 +15,7 @@ ghost use Rattle.hz_value.specs.NumberTexts.{
   is_blank,
   trim_front,
   natural_of,
-  radix_named,
   unsigned_of,
-  number_of,
   text_value,
 };
 

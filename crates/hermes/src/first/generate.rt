@@ -3,7 +3,7 @@
 // The code of a call of `print` loads the function, `this` and the argument into registers and calls. A
 // sum is added up in the argument's register. A script has one function, without branches: the calls in
 // order, and a return.
-ghost use Rattle.std.specs.Prelude.{◌≡◌, ◌≤◌, ◌<◌, IsTrue, IfOk, length, All};
+ghost use Rattle.std.specs.Prelude.{◌≤◌, ◌<◌, IsTrue, IfOk, length, All};
 ghost use Rattle.std.specs.List.{list_all, concat};
 ghost use Rattle.hz_file.specs.Image.{IsShortText};
 ghost use Rattle.hz_ops.specs.Runs.{start_of, Ends, IsBuilt};

@@ -1,6 +1,6 @@
 //! The rules of the string entries and of the texts that they name.
 
-ghost use Rattle.std.specs.Prelude.{◌≡◌, ◌+◌, ◌≤◌, length};
+ghost use Rattle.std.specs.Prelude.{◌≡◌, ◌+◌, ◌≤◌};
 ghost use Rattle.std.specs.List.{list_any, list_all};
 ghost use Rattle.hz_file.specs.Layout.{Fills, wide_units, storage_length};
 ghost use Rattle.hz_file.specs.Rules.{entries_rule, texts_rule, has_its_width, is_text_entry, is_ascii_unit, is_past_ascii};

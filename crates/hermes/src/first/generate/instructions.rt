@@ -1,5 +1,5 @@
 // The registers of the code, and its instructions.
-ghost use Rattle.std.specs.Prelude.{◌≡◌, ◌≤◌, ◌++◌, true, length, IsTrue, OnOk};
+ghost use Rattle.std.specs.Prelude.{◌≡◌, ◌≤◌, ◌++◌, true, length, OnOk};
 ghost use Rattle.hz_ops.specs.Table.{kinds_of};
 ghost use Rattle.hz_ops.specs.Coding.{operands_fit};
 ghost use Rattle.hermes.specs.Generated.{bytes_of};

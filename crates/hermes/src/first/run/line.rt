@@ -1,5 +1,5 @@
 // Printed lines.
-ghost use Rattle.std.specs.Prelude.{◌≡◌, [], ◌∷◌, ◌++◌, map, IfOk, string_bytes, codes};
+ghost use Rattle.std.specs.Prelude.{◌≡◌, ◌++◌, map, IfOk, string_bytes};
 ghost use Rattle.hz_ops.specs.Contents.{text_of, line_of};
 ghost use Rattle.hermes.specs.Printing.{line_bytes};
 ghost use Rattle.hermes.specs.FirstSteps.{content_of, Wrote, MadeLine};

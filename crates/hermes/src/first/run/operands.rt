@@ -1,5 +1,4 @@
 // The operands of an instruction, by the shapes that the rows have.
-ghost use Rattle.std.specs.Prelude.{◌≡◌, MatchResult};
 ghost use Rattle.hermes.specs.FirstSteps.{IsRegister, IsRegisterInt, IsRegisterText, AreThreeRegisters, AreCallOperands};
 
 use crate::first::run::stop::{FirstEnd, Stop};

@@ -1,5 +1,5 @@
 // What an instruction does, by its operation.
-ghost use Rattle.std.specs.Prelude.{◌≡◌, ◌↔◌, ◌<◌, ℕ, ℤ, List, length, map, slice_get, MatchResult, Some, None};
+ghost use Rattle.std.specs.Prelude.{◌≡◌, ◌↔◌, ◌<◌, ℕ, length, map, slice_get, MatchResult, Some, None};
 ghost use Rattle.std.specs.Prelude.{IsTrue};
 ghost use Rattle.hz_value.specs.Numbers.{sum_of, difference_of, product_of};
 ghost use Rattle.hz_file.specs.Module.{module_of};

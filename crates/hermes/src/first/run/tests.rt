@@ -1,6 +1,5 @@
-ghost use Rattle.std.specs.Prelude.{◌≡◌, ◌≤◌, ◌*◌, [], ◌∷◌, false, length, All, IfOk, codes};
-ghost use Rattle.std.specs.List.{concat};
-ghost use Rattle.hz_file.specs.Image.{IsShortText, program, script_module};
+ghost use Rattle.std.specs.Prelude.{◌≡◌, ◌≤◌, ◌*◌, [], ◌∷◌, false, length, IfOk, codes};
+ghost use Rattle.hz_file.specs.Image.{program, script_module};
 ghost use Rattle.hz_ops.specs.Runs.{IsBuilt, start_of};
 ghost use Rattle.hermes.specs.FileCode.{code_module};
 

@@ -1,5 +1,5 @@
 // One instruction, whose line goes out.
-ghost use Rattle.std.specs.Prelude.{◌≡◌, ◌<◌, ◌≤◌, ℕ, [], length, IfOk, MatchResult};
+ghost use Rattle.std.specs.Prelude.{◌≡◌, ◌<◌, ◌≤◌, [], length, IfOk, MatchResult};
 ghost use Rattle.std.specs.Io.KnownBytes.{Appends};
 ghost use Rattle.hz_file.specs.Module.{module_of};
 ghost use Rattle.hz_io.specs.Causes.{Rose};
