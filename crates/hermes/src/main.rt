@@ -4,7 +4,7 @@
 // contract says how each call ends, what it prints, and when it may answer a fault.
 #![tactic(auto)]
 
-ghost use Rattle.std.specs.Prelude.{◌≡◌, ◌<◌};
+ghost use Rattle.std.specs.Prelude.{◌≡◌, ◌<◌, [], IfOk, IsUtf8, string_bytes};
 
 mod disk;
 mod first;
@@ -68,8 +68,14 @@ fn arguments(rt: &HostRuntime) -> Result<Vec<String>, AllocError> {
 }
 
 // The word that an argument is. One that is not UTF-8 is the empty word, which no command has.
-fn word_of(alloc: Global, bytes: &[u8]) -> Result<String, AllocError> {
-    String::from_str(alloc, str::from_utf8(bytes).unwrap_or(""))
+fn word_of(alloc: Global, bytes: &[u8]) -> Result<String, AllocError>
+    ensures text { IsUtf8 bytes.now → IfOk result (λ word. string_bytes word ≡ bytes.now) }
+    ensures other { (IsUtf8 bytes.now → ⊥) → IfOk result (λ word. string_bytes word ≡ []) }
+{
+    match str::from_utf8(bytes) {
+        Ok(text) => String::from_str(alloc, text),
+        Err(_) => Ok(String::new(alloc)),
+    }
 }
 
 // The command, with a count of steps that nobody reads.
