@@ -2,12 +2,22 @@
 // refused: hz_preparse_bench FILE ROUNDS. The script bench/preparse measures it.
 #![tactic(auto)]
 
+ghost use Rattle.std.specs.Prelude.{◌≡◌, ◌++◌, Some, None, IfOk, true, codes, decimal, length, string_bytes};
+ghost use Rattle.hz_tree.specs.declared.refusal.Refusal.{Refusal};
+ghost use Rattle.hz_tree.specs.Refusals.{refusal_of, functions};
+ghost use Rattle.hz_tree.specs.Shown.{text_of_refusal};
+
 use hz_preparse::{PreFault, preparse};
 use std::alloc::{AllocError, Global};
 use std::{env, fs, io};
 
-/// What the source is found to be.
-fn finding(alloc: Global, source: &[u8]) -> Result<String, AllocError> {
+/// How many functions the source has, or why it is refused as strict code.
+fn finding(alloc: Global, source: &[u8]) -> Result<String, AllocError>
+    ensures read { refusal_of source.now true ≡ None → IfOk result
+        (λ text. string_bytes text ≡ decimal (length (functions source.now)) ++ codes " functions") }
+    ensures refused { (why : Refusal) → refusal_of source.now true ≡ Some why → IfOk result
+        (λ text. string_bytes text ≡ codes "refused: " ++ text_of_refusal why) }
+{
     match preparse(alloc, source, true) {
         Ok(index) => {
             let count = index.count();

@@ -2,23 +2,29 @@
 // hz_scan_bench FILE COPIES ROUNDS. The script bench/scanner measures it.
 #![tactic(auto)]
 
+ghost use Rattle.std.specs.Prelude.{◌≡◌, IfOk, length};
+ghost use Rattle.hz_tree.specs.Tokens.{tokens};
+
 use hz_scan::{Braces, Scanner};
 use hz_value::Memory;
 use std::alloc::Global;
 use std::{env, fs, io};
 
 /// How many tokens the source has, the last one included.
-fn count_tokens(alloc: Global, source: &[u8]) -> Result<u64, Memory> {
+fn count_tokens(alloc: Global, source: &[u8]) -> Result<usize, Memory>
+    ensures { IfOk result (λ count. count ≡ length (tokens source.now)) }
+{
     let mut scanner = Scanner::new(source);
     let mut braces = Braces::new(alloc);
-    for earlier in 0..u64::MAX {
+    let mut before = 0;
+    'tokens: loop {
         let token = scanner.next(braces.in_hole());
         if token.kind.is_last() {
-            return Ok(earlier + 1);
+            return Ok(before + 1);
         }
         braces.follow(&token)?;
+        before += 1;
     }
-    Ok(u64::MAX)
 }
 
 /// The number that a word on the command line says, or 1.
