@@ -43,7 +43,8 @@ length_zeros n = length-replicate n 0
 
 length_numbers : (n : ℕ) (xs : List ℕ) → length (numbers n xs) ≡ n * length xs
 length_numbers n [] = omega arith
-length_numbers n (x ∷ xs) = grind (arith, length-append (number n x) (numbers n xs), length_number n x, length_numbers n xs)
+length_numbers n (x ∷ xs) =
+    grind (arith, length-append (number n x) (numbers n xs), length_number n x, length_numbers n xs)
 
 length_entry_words : (at : ℕ) (texts : List (List ℕ)) → length (entry_words at texts) ≡ length texts
 length_entry_words at [] = refl
@@ -108,35 +109,45 @@ pub record Fields (p : Program) : Type 0 where
   pub kind : part (image p) 128 2 ≡ 1 ∷ 0 ∷ []
   pub flag : part (image p) 12 4 ≡ number 4 (if p.strict then 1 else 0)
   pub code : part (image p) (144 + 4 * length p.texts + length (concat p.texts)) (length p.code) ≡ p.code
-  pub source : part (image p) (144 + 4 * length p.texts + length (concat p.texts) + length p.code) (length p.source) ≡ p.source
+  pub source : part (image p) (144 + 4 * length p.texts + length (concat p.texts) + length p.code) (length p.source)
+      ≡ p.source
 
 pub fields : (p : Program) → IsSmall p → Fields p
 unfolding image
 fields p small =
     let hash = length_sha1 (body p) in
     let at = places p in
-    let joined = length_concat (pieces p) in
+    let total = length_concat (pieces p) in
+    let reads = number_found (pieces p) (sha1 (body p)) in
+    let stands = part_found (pieces p) (sha1 (body p)) in
     record {
-      whole = omega (arith, length-append (body p) (sha1 (body p)), rw at.count at joined);
-      edition = number_found (pieces p) 1 4 1 8 _ (omega arith) (unfold pieces in refl) (omega arith) (omega arith);
-      size = number_found (pieces p) 3 8 (size_of p) 16 _ (omega arith) (unfold pieces in refl) (omega arith) (omega arith);
-      functions = number_found (pieces p) 6 8 1 48 _ (omega arith) (unfold pieces in refl) (omega arith) (omega arith);
-      texts = number_found (pieces p) 7 8 (length p.texts) 56 _ (omega arith) (unfold pieces in refl) (omega arith) (omega arith);
-      overflows = number_found (pieces p) 8 8 0 64 _ (omega arith) (unfold pieces in refl) (omega arith) (omega arith);
-      handlers = number_found (pieces p) 9 8 0 72 _ (omega arith) (unfold pieces in refl) (omega arith) (omega arith);
-      large = number_found (pieces p) 10 8 0 80 _ (omega arith) (unfold pieces in refl) (omega arith) (omega arith);
-      code_length = number_found (pieces p) 11 8 (length p.code) 88 _ (omega arith) (unfold pieces in refl) (omega arith) (omega arith);
-      storage_length = number_found (pieces p) 12 8 (length (concat p.texts)) 96 _ (omega arith) (unfold pieces in refl) (omega arith) (omega arith);
-      source_length = number_found (pieces p) 13 8 (length p.source) 104 _ (omega arith) (unfold pieces in refl) (omega arith) (omega arith);
-      registers = number_found (pieces p) 16 2 p.registers 130 _ (omega arith) (unfold pieces in refl) (omega arith) (omega arith);
-      code_place = number_found (pieces p) 17 4 0 132 _ (omega arith) (unfold pieces in refl) (omega arith) (omega arith);
-      code_size = number_found (pieces p) 18 2 (length p.code) 136 _ (omega arith) (unfold pieces in refl) (omega arith) (omega arith);
-      zero = number_found (pieces p) 19 2 0 138 _ (omega arith) (unfold pieces in refl) (omega arith) (omega arith);
-      handler_count = number_found (pieces p) 21 2 0 142 _ (omega arith) (unfold pieces in refl) (omega arith) (omega arith);
-      zeros_44 = part_found (pieces p) 5 (44) (4) _ (omega arith) (omega arith) (unfold pieces in length_zeros 4) ∙ unfold pieces in refl;
-      zeros_112 = part_found (pieces p) 14 (112) (16) _ (omega arith) (omega arith) (unfold pieces in length_zeros 16) ∙ unfold pieces in refl;
-      kind = part_found (pieces p) 15 (128) (2) _ (omega arith) (omega arith) (unfold pieces in refl) ∙ unfold pieces in refl;
-      flag = part_found (pieces p) 2 (12) (4) _ (omega arith) (omega arith) (unfold pieces in length_number 4 _) ∙ unfold pieces in refl;
-      code = part_found (pieces p) 24 (144 + 4 * length p.texts + length (concat p.texts)) (length p.code) _ (omega arith) (omega arith) (unfold pieces in refl) ∙ unfold pieces in refl;
-      source = part_found (pieces p) 25 (144 + 4 * length p.texts + length (concat p.texts) + length p.code) (length p.source) _ (omega arith) (omega arith) (unfold pieces in refl) ∙ unfold pieces in refl;
+      whole = omega (arith, length-append (body p) (sha1 (body p)), rw at.count at total);
+      edition = reads 1 4 1 8 (omega arith) (unfold pieces in refl) (omega arith) (omega arith);
+      size = reads 3 8 (size_of p) 16 (omega arith) (unfold pieces in refl) (omega arith) (omega arith);
+      functions = reads 6 8 1 48 (omega arith) (unfold pieces in refl) (omega arith) (omega arith);
+      texts = reads 7 8 (length p.texts) 56 (omega arith) (unfold pieces in refl) (omega arith) (omega arith);
+      overflows = reads 8 8 0 64 (omega arith) (unfold pieces in refl) (omega arith) (omega arith);
+      handlers = reads 9 8 0 72 (omega arith) (unfold pieces in refl) (omega arith) (omega arith);
+      large = reads 10 8 0 80 (omega arith) (unfold pieces in refl) (omega arith) (omega arith);
+      code_length = reads 11 8 (length p.code) 88 (omega arith) (unfold pieces in refl) (omega arith) (omega arith);
+      storage_length =
+          reads 12 8 (length (concat p.texts)) 96 (omega arith) (unfold pieces in refl) (omega arith) (omega arith);
+      source_length =
+          reads 13 8 (length p.source) 104 (omega arith) (unfold pieces in refl) (omega arith) (omega arith);
+      registers = reads 16 2 p.registers 130 (omega arith) (unfold pieces in refl) (omega arith) (omega arith);
+      code_place = reads 17 4 0 132 (omega arith) (unfold pieces in refl) (omega arith) (omega arith);
+      code_size = reads 18 2 (length p.code) 136 (omega arith) (unfold pieces in refl) (omega arith) (omega arith);
+      zero = reads 19 2 0 138 (omega arith) (unfold pieces in refl) (omega arith) (omega arith);
+      handler_count = reads 21 2 0 142 (omega arith) (unfold pieces in refl) (omega arith) (omega arith);
+      zeros_44 = stands 5 44 4 (omega arith) (omega arith) (unfold pieces in length_zeros 4) ∙ unfold pieces in refl;
+      zeros_112 = stands 14 112 16 (omega arith) (omega arith) (unfold pieces in length_zeros 16) ∙ unfold pieces in
+          refl;
+      kind = stands 15 128 2 (omega arith) (omega arith) (unfold pieces in refl) ∙ unfold pieces in refl;
+      flag = stands 2 12 4 (omega arith) (omega arith) (unfold pieces in length_number 4 _) ∙ unfold pieces in refl;
+      code =
+          stands 24 (144 + 4 * length p.texts + length (concat p.texts)) (length p.code) (omega arith) (omega arith)
+          (unfold pieces in refl) ∙ unfold pieces in refl;
+      source =
+          stands 25 (144 + 4 * length p.texts + length (concat p.texts) + length p.code) (length p.source)
+          (omega arith) (omega arith) (unfold pieces in refl) ∙ unfold pieces in refl;
     }

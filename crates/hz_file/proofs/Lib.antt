@@ -1,4 +1,5 @@
 pub mod Body
+pub mod Conjunctions
 pub mod Fields
 pub mod Law
 pub mod Pieces

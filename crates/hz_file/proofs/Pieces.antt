@@ -1,5 +1,6 @@
 -- Bytes that are written one piece behind the other are found at their places.
-use Rattle.std.proofs.Common.{◌≡◌, ◌<◌, ℕ, zero, suc, ◌+◌, ◌*◌, ◌^◌, List, [], ◌∷◌, ◌++◌, length, drop, get_or, refl, arith, append_assoc, length-append}
+use Rattle.std.proofs.Common.{◌≡◌, ◌<◌, ℕ, zero, suc, ◌+◌, ◌*◌, ◌^◌, List, [], ◌∷◌, ◌++◌, length, drop, get_or, refl}
+use Rattle.std.proofs.Common.{arith, append_assoc, length-append}
 use Rattle.std.specs.List.{concat}
 use Rattle.std.proofs.Math.Seq.{drop-append-add}
 use Rattle.std.proofs.lemmas.List.{take_at}
@@ -27,28 +28,36 @@ place i [] = 0
 place zero (x ∷ xs) = 0
 place (suc i) (x ∷ xs) = length x + place i xs
 
-pub piece_found : (ps : List (List ℕ)) (i : ℕ) (rest : List ℕ) → i < length ps → drop (place i ps) (concat ps ++ rest) ≡ get_or ps i [] ++ (concat (drop (suc i) ps) ++ rest)
+pub piece_found : (ps : List (List ℕ)) (i : ℕ) (rest : List ℕ) → i < length ps →
+    drop (place i ps) (concat ps ++ rest) ≡ get_or ps i [] ++ (concat (drop (suc i) ps) ++ rest)
 piece_found [] i rest within = absurd (omega arith)
 piece_found (x ∷ xs) zero rest within = append_assoc x (concat xs) rest
 piece_found (x ∷ xs) (suc i) rest within =
-    rw (append_assoc x (concat xs) rest, drop-append-add x (concat xs ++ rest) (place i xs)) (piece_found xs i rest (omega arith))
-
--- a number that is a piece is read back at its place
-pub number_found : (ps : List (List ℕ)) (i n x at : ℕ) (rest : List ℕ) → i < length ps → get_or ps i [] ≡ number n x → x < 256 ^ n → at ≡ place i ps → field n (concat ps ++ rest) at ≡ x
-unfolding field number
-number_found ps i n x at rest within is fits here =
-    rw (here, piece_found ps i rest within, is) (little_number-reads_back n x (concat (drop (suc i) ps) ++ rest) fits)
-
--- the bytes of a piece are found at its place
-pub part_found : (ps : List (List ℕ)) (i at n : ℕ) (rest : List ℕ) → i < length ps → at ≡ place i ps → length (get_or ps i []) ≡ n → part (concat ps ++ rest) at n ≡ get_or ps i []
-part_found ps i at n rest within here size =
-    rw (here, piece_found ps i rest within) (take_at (get_or ps i []) _ n size)
-
--- the bytes from the place of a piece on
-pub drop_found : (ps : List (List ℕ)) (i at : ℕ) (rest : List ℕ) → i < length ps → at ≡ place i ps → drop at (concat ps ++ rest) ≡ get_or ps i [] ++ (concat (drop (suc i) ps) ++ rest)
-drop_found ps i at rest within here = rw here (piece_found ps i rest within)
+    rw (append_assoc x (concat xs) rest, drop-append-add x (concat xs ++ rest) (place i xs))
+    (piece_found xs i rest (omega arith))
 
 -- the length of all pieces is the place behind them
 pub length_concat : (ps : List (List ℕ)) → length (concat ps) ≡ place (length ps) ps
 length_concat [] = refl
 length_concat (x ∷ xs) = omega (arith, length-append x (concat xs), length_concat xs)
+
+-- ---- pieces, and what is behind them
+
+module _ (ps : List (List ℕ)) (rest : List ℕ) where
+  -- a number that is a piece is read back at its place
+  pub number_found : (i n x at : ℕ) → i < length ps → get_or ps i [] ≡ number n x → x < 256 ^ n → at ≡ place i ps →
+      field n (concat ps ++ rest) at ≡ x
+  unfolding field number
+  number_found i n x at within is fits here =
+      rw (here, piece_found ps i rest within, is) (little_number-reads_back n x (concat (drop (suc i) ps) ++ rest) fits)
+
+  -- the bytes of a piece are found at its place
+  pub part_found : (i at n : ℕ) → i < length ps → at ≡ place i ps → length (get_or ps i []) ≡ n →
+      part (concat ps ++ rest) at n ≡ get_or ps i []
+  part_found i at n within here size =
+      rw (here, piece_found ps i rest within) (take_at (get_or ps i []) _ n size)
+
+  -- the bytes from the place of a piece on
+  pub drop_found : (i at : ℕ) → i < length ps → at ≡ place i ps →
+      drop at (concat ps ++ rest) ≡ get_or ps i [] ++ (concat (drop (suc i) ps) ++ rest)
+  drop_found i at within here = rw here (piece_found ps i rest within)

@@ -1,5 +1,6 @@
 -- Where the parts of a file stand. All numbers are little-endian; places and lengths are bytes.
-use Rattle.std.specs.Prelude.{◌≡◌, ◌≤◌, length, ℕ, zero, suc, ◌+◌, ◌*◌, ◌/◌, ◌%◌, Bool, List, [], ◌∷◌, take, drop, slice_index, nat_eq, if◌then◌else◌}
+use Rattle.std.specs.Prelude.{◌≡◌, ◌≤◌, length, ℕ, zero, suc, ◌+◌, ◌*◌, ◌/◌, ◌%◌, Bool, List, [], ◌∷◌, take, drop}
+use Rattle.std.specs.Prelude.{slice_index, nat_eq, if◌then◌else◌}
 use Rattle.byteorder.specs.Endian.{little_number}
 
 -- the number in the n bytes at a place

@@ -1,8 +1,11 @@
 -- What a file holds.
-use Rattle.std.specs.Prelude.{ℕ, zero, suc, ◌+◌, Bool, List, [], ◌∷◌, map, slice_index, nat_eq, if◌then◌else◌, Option, Some, None}
+use Rattle.std.specs.Prelude.{ℕ, zero, suc, ◌+◌, Bool, List, [], ◌∷◌, map, slice_index, nat_eq, if◌then◌else◌, Option}
+use Rattle.std.specs.Prelude.{Some, None}
 use Rattle.hz_tree.specs.declared.tree.FunctionKind.{FunctionKind}
 use Rattle.hz_tree.specs.declared.tree.FunctionKind.TheVariants.{Script, Function, Arrow, Method, Generator}
-use Rattle.hz_file.specs.Layout.{part, strict_flag, source_at, source_length, function_count, header_at, has_code, kind_number, register_count, code_at, code_place, code_size, entries, entry_is_wide, text_bytes, units_of}
+use Rattle.hz_file.specs.Layout.{part, strict_flag, source_at, source_length, function_count, header_at, has_code}
+use Rattle.hz_file.specs.Layout.{kind_number, register_count, code_at, code_place, code_size, entries, entry_is_wide}
+use Rattle.hz_file.specs.Layout.{text_bytes, units_of}
 
 -- a function: its code is bytes, or not there in a stub
 pub record ModuleFunction : Type 0 where

@@ -1,7 +1,8 @@
 -- The first rule of a file that fails, with its place.
 use Rattle.std.specs.Prelude.{ℕ, List, Option, Some, None}
 use Rattle.hz_file.specs.declared.malformed.Malformed.{Malformed}
-use Rattle.hz_file.specs.Rules.{size_rule, edition_rule, zero_rule, length_rule, sections_rule, functions_rule, code_rule, entries_rule, texts_rule, footer_rule}
+use Rattle.hz_file.specs.Rules.{size_rule, edition_rule, zero_rule, length_rule, sections_rule, functions_rule}
+use Rattle.hz_file.specs.Rules.{code_rule, entries_rule, texts_rule, footer_rule}
 
 -- this rule's fault, or else the first of the others
 abbrev pub fails : ℕ → Option ℕ → Option Malformed → Option Malformed

@@ -1,10 +1,14 @@
 -- The rules of the file. Each gives the place where it fails, and None where it holds; within a rule
 -- the least place counts. A later rule is asked only where the earlier ones hold.
-use Rattle.std.specs.Prelude.{ℕ, ◌+◌, ◌-◌, Bool, not, ◌&&◌, List, [], ◌∷◌, take, drop, length, slice_index, nat_eq, nat_le, nat_lt, if◌then◌else◌, Option, Some, None}
+use Rattle.std.specs.Prelude.{ℕ, ◌+◌, ◌-◌, Bool, not, ◌&&◌, List, [], ◌∷◌, take, drop, length, slice_index, nat_eq}
+use Rattle.std.specs.Prelude.{nat_le, nat_lt, if◌then◌else◌, Option, Some, None}
 use Rattle.std.specs.List.{list_all, list_any}
 use Rattle.std.specs.Option.{option_or}
 use Rattle.sha1.specs.Sha1.{sha1}
-use Rattle.hz_file.specs.Layout.{part, edition, file_length, function_count, overflow_count, handler_count, large_count, code_length, storage_length, strings_at, storage_at, footer_at, header_at, field, has_code, is_large, kind_number, code_place, code_size, entry_is_wide, entry_place, entry_units, entry_size, entries, text_bytes, wide_units}
+use Rattle.hz_file.specs.Layout.{part, edition, file_length, function_count, overflow_count, handler_count}
+use Rattle.hz_file.specs.Layout.{large_count, code_length, storage_length, strings_at, storage_at, footer_at}
+use Rattle.hz_file.specs.Layout.{header_at, field, has_code, is_large, kind_number, code_place, code_size}
+use Rattle.hz_file.specs.Layout.{entry_is_wide, entry_place, entry_units, entry_size, entries, text_bytes, wide_units}
 
 -- the place, unless the test holds
 abbrev pub unless : Bool → ℕ → Option ℕ

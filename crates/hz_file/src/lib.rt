@@ -19,14 +19,10 @@ mod numbers;
 mod rules;
 mod sections;
 mod string;
-#[cfg(test)]
-mod tests;
-mod texts;
 mod writing;
 
 pub use file::{File, has_magic};
 pub use function::FunctionView;
 pub use malformed::Malformed;
 pub use string::StringView;
-pub use texts::Texts;
-pub use writing::write_small;
+pub use writing::{Texts, write_small};

@@ -9,10 +9,12 @@ ghost use Rattle.hz_file.specs.Opening.{rule};
 
 use crate::appending::{put, put_numbers, put_text, put_u16, put_u32, put_u64};
 use crate::file::MAGIC;
-use crate::texts::Texts;
-use hz_value::Memory;
+use hz_value::{Memory, Series, Units};
 use sha1::Sha1;
 use std::alloc::Global;
+
+/// The texts of a file that is to be written, by their ids.
+pub type Texts = Series<Units>;
 
 /// The lengths that a header names.
 #[derive(Clone, Copy)]

@@ -2,7 +2,7 @@ pub mod Reading
 pub mod Fitting
 pub mod Numbering
 pub mod RoundTrip
-mod Worked
+mod CodeExamples
 pub mod Running
 pub mod Rows
 pub mod Registers

@@ -1,6 +1,8 @@
 -- Instructions as bytes. The first byte is the operation's number, with 128 more in the long form; then
 -- come the operands in the order of the row, each of them with its lowest byte first.
-use Rattle.std.specs.Prelude.{ℕ, ◌+◌, ◌-◌, ◌%◌, ◌^◌, Bool, true, false, not, ◌&&◌, List, [], ◌∷◌, ◌++◌, length, drop, nat_lt, nat_le, int_lt, int_le, ℤ, pos, neg_ℤ, if◌then◌else◌, Option, Some, None, option_map, option_and_then}
+use Rattle.std.specs.Prelude.{ℕ, ◌+◌, ◌-◌, ◌%◌, ◌^◌, Bool, true, false, not, ◌&&◌, List, [], ◌∷◌, ◌++◌, length, drop}
+use Rattle.std.specs.Prelude.{nat_lt, nat_le, int_lt, int_le, ℤ, pos, neg_ℤ, if◌then◌else◌, Option, Some, None}
+use Rattle.std.specs.Prelude.{option_map, option_and_then}
 use Rattle.std.specs.Int.{to_le_bytes, cast_signed, cast_unsigned}
 use Rattle.hz_ops.specs.declared.number.Size.{Size}
 use Rattle.hz_ops.specs.declared.number.Size.TheVariants.{One, Two, Eight}
@@ -15,28 +17,13 @@ use Rattle.hz_ops.specs.Table.{number_of_op, kinds_of, op_at}
 
 -- ---- operands
 
-abbrev pub short_size : OperandKind → Size
-short_size kind.Register = One
-short_size kind.Slot = Two
-short_size kind.Text = Two
-short_size kind.Function = Two
-short_size kind.Int = One
-short_size kind.Jump = Two
-short_size kind.Count = One
-
-abbrev pub long_size : OperandKind → Size
-long_size kind.Register = Eight
-long_size kind.Slot = Eight
-long_size kind.Text = Eight
-long_size kind.Function = Eight
-long_size kind.Int = Eight
-long_size kind.Jump = Eight
-long_size kind.Count = One
-
 -- how many bytes an operand of this kind takes, in the long form or the short one
 abbrev pub size_of : Bool → OperandKind → Size
-size_of false k = short_size k
-size_of true k = long_size k
+size_of long kind.Count = One
+size_of true k = Eight
+size_of false kind.Register = One
+size_of false kind.Int = One
+size_of false k = Two
 
 -- the operand of this kind that the number in so many bytes stands for: integers and jumps are signed
 abbrev pub operand_of : OperandKind → Size → ℕ → Operand

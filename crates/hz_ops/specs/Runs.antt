@@ -1,7 +1,8 @@
 -- Whole runs of code: the lines that they print, and how they end.
 use Rattle.std.specs.Prelude.{◌≡◌, ℕ, zero, suc, List, [], ◌∷◌, ◌++◌}
 use Rattle.hz_value.specs.declared.leaving.Left.{Left}
-use Rattle.hz_ops.specs.Activations.{Module, Activation, entered, Act, Print, Return, Leave, Bad, Beyond, Next, Goes, Does}
+use Rattle.hz_ops.specs.Activations.{Module, Activation, entered, Act, Print, Return, Leave, Bad, Beyond, Next, Goes}
+use Rattle.hz_ops.specs.Activations.{Does}
 use Rattle.hz_ops.specs.Step.{cstep}
 
 -- the script returned, the run was left for a reason, or it met bad code

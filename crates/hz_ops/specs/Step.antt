@@ -3,7 +3,8 @@
 -- The operands are tested before anything else that a row does, those that it writes among them. A
 -- register or text that is not there, an integer that is not safe, and a place where no whole
 -- instruction stands are bad code.
-use Rattle.std.specs.Prelude.{ℕ, ◌+◌, ℤ, List, [], ◌∷◌, length, take, drop, slice_get, nat_le, if◌then◌else◌, Option, Some, None, bytes_eq}
+use Rattle.std.specs.Prelude.{ℕ, ◌+◌, ℤ, List, [], ◌∷◌, length, take, drop, slice_get, nat_le, if◌then◌else◌, Option}
+use Rattle.std.specs.Prelude.{Some, None, bytes_eq}
 use Rattle.hz_value.specs.declared.leaving.Left.TheVariants as left
 use Rattle.hz_value.specs.Numbers.{safe, sum_of, difference_of, product_of}
 use Rattle.hz_ops.specs.declared.op.Op.{Op}
@@ -13,7 +14,8 @@ use Rattle.hz_ops.specs.declared.op.Operand.TheVariants as operand
 use Rattle.hz_ops.specs.declared.instr.Instr.{Instr}
 use Rattle.hz_ops.specs.Coding.{decode_at}
 use Rattle.hz_ops.specs.Contents.{Content, Undefined, Number, Text, print_name, print_object, is_print, line_of}
-use Rattle.hz_ops.specs.Activations.{Module, code_of, Activation, written, Print, Return, Leave, Bad, Beyond, Next, Goes, Does}
+use Rattle.hz_ops.specs.Activations.{Module, code_of, Activation, written, Print, Return, Leave, Bad, Beyond, Next}
+use Rattle.hz_ops.specs.Activations.{Goes, Does}
 
 -- goes on with what was found, or is bad code
 abbrev pub found_to : {T : Type 0} → Activation → (T → Next) → Option T → Next
@@ -43,7 +45,8 @@ at_three_registers (operand.Register r ∷ operand.Register x ∷ operand.Regist
 at_three_registers os a go = Does Bad a
 
 abbrev pub at_call : List Operand → Activation → (ℕ → ℕ → ℕ → ℕ → ℕ → Next) → Next
-at_call (operand.Register r ∷ operand.Register callee ∷ operand.Register this ∷ operand.Register first ∷ operand.Count n ∷ []) a go = go r callee this first n
+at_call (operand.Register r ∷ operand.Register callee ∷ operand.Register this ∷ operand.Register first ∷ operand.Count
+    n ∷ []) a go = go r callee this first n
 at_call os a go = Does Bad a
 
 -- ---- the rows: r is the register that is written, and `next` the place behind the instruction

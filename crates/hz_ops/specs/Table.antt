@@ -1,7 +1,8 @@
 -- The table of instructions: a row for each operation, with its number and the kinds of its operands.
 use Rattle.std.specs.Prelude.{ℕ, List, [], ◌∷◌, ◌==◌, if◌then◌else◌, Option, Some, None}
 use Rattle.hz_ops.specs.declared.op.Op.{Op}
-use Rattle.hz_ops.specs.declared.op.Op.TheVariants.{LoadUndefined, LoadInt, LoadString, LoadGlobal, Add, Sub, Mul, Return, Call}
+use Rattle.hz_ops.specs.declared.op.Op.TheVariants.{LoadUndefined, LoadInt, LoadString, LoadGlobal, Add, Sub, Mul}
+use Rattle.hz_ops.specs.declared.op.Op.TheVariants.{Return, Call}
 use Rattle.hz_ops.specs.declared.op.OperandKind.{OperandKind}
 use Rattle.hz_ops.specs.declared.op.OperandKind.TheVariants.{Register, Text, Int, Count}
 

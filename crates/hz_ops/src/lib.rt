@@ -24,6 +24,3 @@ pub use instr::{Instr, push_instr};
 pub use laws::{ended_is_built, lines_grow, one_end, read_in_place, step_by_step};
 pub use op::{Op, Operand, OperandKind};
 pub use shape::Shape;
-
-#[cfg(test)]
-mod tests;

@@ -1,7 +1,8 @@
 -- What is printed of a reason for leaving a run.
 use Rattle.std.specs.Prelude.{ℕ, List, codes}
 use Rattle.hz_value.specs.declared.leaving.Left.{Left}
-use Rattle.hz_value.specs.declared.leaving.Left.TheVariants.{NotSafe, Missing, Wrapper, ZeroSign, CaseMapping, TooDeep, LongLine}
+use Rattle.hz_value.specs.declared.leaving.Left.TheVariants.{NotSafe, Missing, Wrapper, ZeroSign, CaseMapping}
+use Rattle.hz_value.specs.declared.leaving.Left.TheVariants.{TooDeep, LongLine}
 
 -- the bytes of the reason's name
 abbrev pub name_of_left : Left → List ℕ

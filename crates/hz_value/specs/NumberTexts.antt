@@ -1,9 +1,11 @@
 -- The number that a text means: ECMA-262's StringToNumber (7.1.4.1) where its value is a safe integer
 -- that is written without a point and without an exponent.
-use Rattle.std.specs.Prelude.{ℕ, ℤ, pos, neg_ℤ, Bool, ◌&&◌, ◌||◌, nat_lt, nat_le, ◌==◌, if◌then◌else◌, Option, Some, None, List, [], ◌∷◌, reverse, length, option_map}
+use Rattle.std.specs.Prelude.{ℕ, ℤ, pos, neg_ℤ, Bool, ◌&&◌, ◌||◌, nat_lt, nat_le, ◌==◌, if◌then◌else◌, Option, Some}
+use Rattle.std.specs.Prelude.{None, List, [], ◌∷◌, reverse, length, option_map}
 use Rattle.std.specs.List.{list_all}
 use Rattle.std.specs.Char.{digit_value}
 use Rattle.std.specs.Str.Parse.{digits_value}
+use Rattle.hz_value.specs.Numbers.{max_safe}
 
 -- the units that ECMA-262 calls WhiteSpace (12.2) or LineTerminator (12.3)
 abbrev pub is_blank : ℕ → Bool
@@ -26,7 +28,7 @@ are_digits radix us = list_all (λ u. nat_lt (digit_value u) radix) us
 -- the number that one or more digits write, where it is safe
 abbrev pub natural_of : ℕ → List ℕ → Option ℕ
 natural_of radix us =
-    if nat_lt 0 (length us) && are_digits radix us && nat_le (digits_value radix us) 9007199254740991
+    if nat_lt 0 (length us) && are_digits radix us && nat_le (digits_value radix us) max_safe
     then Some (digits_value radix us) else None
 
 -- the radix that the unit behind a leading `0` tells: `x` or `X`, `o` or `O`, `b` or `B`

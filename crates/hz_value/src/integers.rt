@@ -16,14 +16,14 @@ ghost use Rattle.hz_value.specs.Numbers.{
 
 use std::marker::Model;
 
-/// 2 to the 53rd power, less 1: the greatest safe integer (ECMA-262, 21.1.2.6).
-const MAX_SAFE: i64 = 9007199254740991;
+/// The greatest safe integer (ECMA-262, 21.1.2.6): `max_safe` of `specs/Numbers.antt`.
+pub const MAX_SAFE: u64 = 9007199254740991;
 
 const TWO_TO_31: i64 = 2147483648;
 
 const TWO_TO_32: i64 = 4294967296;
 
-/// A number of a script: an integer from -9007199254740991 to 9007199254740991.
+/// A number of a script: an integer from -`MAX_SAFE` to `MAX_SAFE`.
 #[derive(Clone, Copy, Debug, PartialEq, Eq)]
 pub struct Safe {
     value: i64,
@@ -47,7 +47,7 @@ impl Safe {
     pub fn new(v: i64) -> Option<Safe>
         ensures { result ≡ safe v }
     {
-        if v < -MAX_SAFE || v > MAX_SAFE {
+        if v.unsigned_abs() > MAX_SAFE {
             return None;
         }
         Some(Safe { value: v })
@@ -66,7 +66,7 @@ impl Safe {
 pub fn from_wide(value: i128) -> Option<Safe>
     ensures { result ≡ safe value }
 {
-    if value < -(MAX_SAFE as i128) || value > MAX_SAFE as i128 {
+    if value.unsigned_abs() > MAX_SAFE as u128 {
         return None;
     }
     Some(Safe {

@@ -11,6 +11,7 @@ ghost use Rattle.std.specs.Prelude.{
 };
 ghost use Rattle.std.specs.Fmt.{signed_decimal};
 ghost use Rattle.std.specs.Char as char;
+ghost use Rattle.hz_value.specs.Numbers.{max_safe};
 ghost use Rattle.hz_value.specs.NumberTexts.{
   is_blank,
   trim_front,
@@ -20,12 +21,10 @@ ghost use Rattle.hz_value.specs.NumberTexts.{
 };
 
 use crate::code_units::Units;
-use crate::integers::Safe;
+use crate::integers::{MAX_SAFE, Safe};
 use crate::out_of_memory::Memory;
 use itoa::Buffer;
 use std::alloc::Global;
-
-const MAX_SAFE: u64 = 9007199254740991;
 
 const PLUS: u16 = b'+' as u16;
 
@@ -56,7 +55,7 @@ pub fn text_number(t: &Units) -> Option<Safe>
 }
 
 fn positive(magnitude: Option<u64>) -> Option<Safe>
-    requires { IfSome magnitude (λ n. n ≤ MAX_SAFE) }
+    requires { IfSome magnitude (λ n. n ≤ max_safe) }
     ensures { result ≡ option_map pos magnitude }
 {
     match magnitude {
@@ -66,7 +65,7 @@ fn positive(magnitude: Option<u64>) -> Option<Safe>
 }
 
 fn negative(magnitude: Option<u64>) -> Option<Safe>
-    requires { IfSome magnitude (λ n. n ≤ MAX_SAFE) }
+    requires { IfSome magnitude (λ n. n ≤ max_safe) }
     ensures { result ≡ option_map (λ n. neg_ℤ (pos n)) magnitude }
 {
     match magnitude {
@@ -77,7 +76,7 @@ fn negative(magnitude: Option<u64>) -> Option<Safe>
 
 fn unsigned(text: &[u16]) -> Option<u64>
     ensures value { result ≡ unsigned_of text.now }
-    ensures bound { IfSome result (λ n. n ≤ MAX_SAFE) }
+    ensures bound { IfSome result (λ n. n ≤ max_safe) }
 {
     match text {
         // behind the 0 stands an x, an o or a b, in either case
@@ -93,7 +92,7 @@ fn natural(radix: u64, digits: &[u16]) -> Option<u64>
     requires least { 2 ≤ radix }
     requires most { radix ≤ 16 }
     ensures value { result ≡ natural_of radix digits.now }
-    ensures bound { IfSome result (λ n. n ≤ MAX_SAFE) }
+    ensures bound { IfSome result (λ n. n ≤ max_safe) }
 {
     if digits.is_empty() {
         return None;

@@ -4,12 +4,18 @@ use Rattle.hz_value.proofs.number_texts.natural.Goals as goal
 
 pub returns-then-value-gt-MAX_SAFE-clause-value : goal.returns-then-value-gt-MAX_SAFE-clause-value
 returns-then-value-gt-MAX_SAFE-clause-value c =
-    let step = digits_value_step c.args.radix c.loop-unit.value c.digit_of-digit.result c.args.digits.now c.loop-unit.unit-index c.loop-unit-test.true c.loop-unit.invariant.value c.digit_of-digit.ensures in
+    let loop = c.loop-unit in
+    let step = digits_value_step c.args.radix loop.value c.digit_of-digit.result c.args.digits.now loop.unit-index
+    c.loop-unit-test.true loop.invariant.value c.digit_of-digit.ensures in
     sym (natural_too_large c.args.radix _ c.args.digits.now _ (omega arith) step c.if-value-gt-MAX_SAFE.true)
 
 pub loop-unit-preserved : goal.loop-unit-preserved
-loop-unit-preserved c = record {
-  digits = are_digits_more c.args.radix c.args.digits.now c.loop-unit.unit-index c.loop-unit-test.true c.loop-unit.invariant.digits (rw c.digit_of-digit.ensures at c.if-digit-radix.false);
-  value = digits_value_step c.args.radix c.loop-unit.value c.digit_of-digit.result c.args.digits.now c.loop-unit.unit-index c.loop-unit-test.true c.loop-unit.invariant.value c.digit_of-digit.ensures;
-  bound = c.if-value-gt-MAX_SAFE.false;
-}
+loop-unit-preserved c =
+    let loop = c.loop-unit in
+    let digits = c.args.digits.now in record {
+      digits = are_digits_more c.args.radix digits loop.unit-index c.loop-unit-test.true loop.invariant.digits
+          (rw c.digit_of-digit.ensures at c.if-digit-radix.false);
+      value = digits_value_step c.args.radix loop.value c.digit_of-digit.result digits loop.unit-index
+          c.loop-unit-test.true loop.invariant.value c.digit_of-digit.ensures;
+      bound = c.if-value-gt-MAX_SAFE.false;
+    }

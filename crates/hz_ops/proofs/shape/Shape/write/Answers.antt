@@ -12,15 +12,28 @@ offset_bounds-args-i g c = omega arith
 
 pub bounds-args-i : goal.bounds-args-i
 bounds-args-i g c =
-    omega (arith, same_length c.args.long (drop c.loop-i.i c.args.self.now.kinds) (drop c.loop-i.i c.args.args.now) c.loop-i.invariant.0, length-drop c.loop-i.i c.args.self.now.kinds, length-drop c.loop-i.i c.args.args.now)
+    let ks = c.args.self.now.kinds in
+    let os = c.args.args.now in
+    let i = c.loop-i.i in
+    omega (
+      arith,
+      same_length c.args.long (drop i ks) (drop i os) c.loop-i.invariant.0,
+      length-drop i ks,
+      length-drop i os,
+    )
 
 pub put_operand-at-requires-clause-fits : goal.put_operand-at-requires-clause-fits
 put_operand-at-requires-clause-fits g c =
-    (step_at c.args.long c.args.self.now.kinds c.args.args.now c.loop-i.i kind.Register (operand.Register 0) (omega arith) c.loop-i.invariant.0).fits
+    (step_at c.args.long c.args.self.now.kinds c.args.args.now c.loop-i.i kind.Register (operand.Register 0)
+    (omega arith) c.loop-i.invariant.0).fits
 
 pub put_operand-at-requires-clause-room : goal.put_operand-at-requires-clause-room
 put_operand-at-requires-clause-room g c =
-    omega (arith, length_left c.args.long c.args.self.now.kinds c.args.args.now c.loop-i.i _ _ (step_at c.args.long c.args.self.now.kinds c.args.args.now c.loop-i.i kind.Register (operand.Register 0) (omega arith) c.loop-i.invariant.0))
+    omega (
+      arith,
+      length_left (step_at c.args.long c.args.self.now.kinds c.args.args.now c.loop-i.i kind.Register
+          (operand.Register 0) (omega arith) c.loop-i.invariant.0),
+    )
 
 pub loop-i-preserved : goal.loop-i-preserved
 loop-i-preserved g c =
@@ -28,9 +41,11 @@ loop-i-preserved g c =
     let os : List Operand = c.args.args.now in
     let k : OperandKind = get_or ks c.loop-i.i kind.Register in
     let o : Operand = get_or os c.loop-i.i (operand.Register 0) in
-    let step : Step c.args.long ks os c.loop-i.i k o = step_at c.args.long ks os c.loop-i.i kind.Register (operand.Register 0) (omega arith) c.loop-i.invariant.0 in (
-      rest_fits c.args.long ks os c.loop-i.i k o step,
-      omega (arith, length_left c.args.long ks os c.loop-i.i k o step),
-      written_more c.args.long ks os c.loop-i.i k o _ _ step c.put_operand-at.ensures.front ∙ c.loop-i.invariant.2,
-      c.put_operand-at.ensures.back ∙ dropped_on c.loop-i.at _ _ c.loop-i.buf c.args.buf.now c.put_operand-at.ensures.place c.loop-i.invariant.3,
+    let step : Step c.args.long ks os c.loop-i.i k o =
+    step_at c.args.long ks os c.loop-i.i kind.Register (operand.Register 0) (omega arith) c.loop-i.invariant.0 in (
+      rest_fits step,
+      omega (arith, length_left step),
+      written_more _ _ step c.put_operand-at.ensures.front ∙ c.loop-i.invariant.2,
+      c.put_operand-at.ensures.back ∙ dropped_on c.loop-i.at _ _ c.loop-i.buf c.args.buf.now
+          c.put_operand-at.ensures.place c.loop-i.invariant.3,
     )

