@@ -1,12 +1,21 @@
--- Rows whose nonterminal carries the value that their test reads.
-use Rattle.std.proofs.Common.{◌≡◌, Bool, true, false, [], ◌∷◌, refl}
+-- What the row of a nonterminal pushes, where the nonterminal or what it carries is known by an equation.
+use Rattle.std.proofs.Common.{◌≡◌, Bool, true, false, List, [], ◌∷◌, Result, refl, sym, subst}
 use Rattle.hz_tree.specs.declared.class.Class.{Class}
 use Rattle.hz_tree.specs.declared.class.Class.TheVariants as k
 use Rattle.hz_tree.specs.declared.nonterminal.Context.{Context}
 use Rattle.hz_tree.specs.declared.nonterminal.Nonterminal.TheVariants as n
+use Rattle.hz_tree.specs.declared.look.Look.{Look}
+use Rattle.hz_tree.specs.declared.nonterminal.Nonterminal.{Nonterminal}
+use Rattle.hz_tree.specs.declared.symbol.Symbol.{Symbol}
 use Rattle.hz_tree.specs.declared.symbol.Symbol.TheVariants.{Take, Read}
-use Rattle.hz_tree.specs.Grammar.{pushes, step_of}
-use Rattle.hz_tree.specs.GrammarStatements.{clauses_row}
+use Rattle.hz_tree.specs.grammar.Table.{pushes, step_of, step}
+use Rattle.hz_tree.specs.grammar.StatementRows.{clauses_row}
+use Rattle.hz_rows.specs.declared.stop.Stop.{Stop}
+use Rattle.hz_rows.specs.Pushed.{Pushed}
+
+pub pushed_at : (m m' : Nonterminal) (l : Look) (r : Result (Unit {0}) Stop) (old new : List Symbol) → m ≡ m'
+    → Pushed (step m' l) r old new → Pushed (step m l) r old new
+pushed_at m m' l r old new e h = subst (λ x. Pushed (step x l) r old new) (sym e) h
 
 -- no second `default`
 pub clauses_row-default : (c : Context) (has_default : Bool) (one : Class) → one ≡ k.Default → has_default ≡ true

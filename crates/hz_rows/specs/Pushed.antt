@@ -1,7 +1,7 @@
 -- What expanding a nonterminal does to the stack of symbols, whose top is the first of the list.
 use Rattle.std.specs.Prelude.{◌≡◌, List, ◌++◌, Result, Ok, Err}
 use Rattle.hz_tree.specs.declared.symbol.Symbol.{Symbol}
-use Rattle.hz_tree.specs.Grammar.{Step, pushes, fails}
+use Rattle.hz_tree.specs.grammar.Table.{Step, pushes, fails}
 use Rattle.hz_rows.specs.declared.stop.Stop.{Stop}
 use Rattle.hz_rows.specs.declared.stop.Stop.TheVariants.{Memory, Refused}
 

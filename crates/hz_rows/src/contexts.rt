@@ -1,7 +1,7 @@
 //! The parameters of a rule within the rules that it names (ECMA-262, 5.1.5).
 
 ghost use Rattle.std.specs.Prelude.{◌≡◌};
-ghost use Rattle.hz_tree.specs.Symbols as symbols;
+ghost use Rattle.hz_tree.specs.grammar.Symbols as symbols;
 
 use hz_tree::Context;
 

@@ -1,13 +1,12 @@
 //! Names, parameters and bodies of functions (ECMA-262, 15).
 
-ghost use Rattle.hz_tree.specs.Grammar.{step_of};
-ghost use Rattle.hz_tree.specs.GrammarFunctions as row;
+ghost use Rattle.hz_tree.specs.grammar.Table.{step_of};
+ghost use Rattle.hz_tree.specs.grammar.FunctionRows as row;
 ghost use Rattle.hz_rows.specs.Pushed.{Pushed};
 
 use crate::contexts::of_body;
 use crate::stack::Stack;
 use crate::stop::{Stop, left_out};
-use hz_cursor::is_name;
 use hz_tree::Nonterminal::{Bound, Items, MoreParameters, ParameterEnd, Parameters};
 use hz_tree::Symbol::{Count, Read, Take};
 use hz_tree::{Class, OutsideKind};
@@ -15,7 +14,7 @@ use hz_tree::{Class, OutsideKind};
 pub fn own_name_row(stack: &mut Stack, one: Class) -> Result<(), Stop>
     ensures { Pushed (step_of (row.own_name_row one)) result stack.old stack.new }
 {
-    if is_name(one) {
+    if one.is_name() {
         stack.push(&[Take(Class::Name)])
     } else {
         Ok(())

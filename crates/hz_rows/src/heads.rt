@@ -1,22 +1,19 @@
 //! The head of a `for` (ECMA-262, 14.7.4 and 14.7.5).
 
-ghost use Rattle.hz_tree.specs.Grammar.{step_of};
-ghost use Rattle.hz_tree.specs.GrammarFor as row;
-ghost use Rattle.hz_cursor.specs.Terminal.{seen};
+ghost use Rattle.hz_tree.specs.grammar.Table.{step_of};
+ghost use Rattle.hz_tree.specs.grammar.HeadRows as row;
 ghost use Rattle.hz_rows.specs.Pushed.{Pushed};
 ghost use Rattle.std.specs.Prelude.{◌≡◌};
 
-use crate::classes::{begins_unary, is_async_word, is_of, is_slash, is_yield};
 use crate::contexts::without_in;
 use crate::stack::Stack;
 use crate::stop::{Stop, left_out};
-use hz_cursor::Look;
 use hz_tree::Nonterminal::{
-    Assign, AssignRest, Bound, CondRest, DeclaredHead, Expr, ExprRest, Initial, Left, LeftHead,
-    Logical, MoreBinds, Operators, OptionalExpr, PostfixRest, PowerRest,
+    Bound, DeclaredHead, Expr, ExprRest, Initial, LeftHead, MoreBinds, Operation, OptionalExpr,
+    Rests,
 };
 use hz_tree::Symbol::{Read, Take};
-use hz_tree::{Class, Context, OutsideKind};
+use hz_tree::{Class, Context, Level, Look, OutsideKind};
 
 pub fn for_open_row(stack: &mut Stack, one: Class) -> Result<(), Stop>
     ensures { Pushed (step_of (row.for_open_row one)) result stack.old stack.new }
@@ -32,7 +29,7 @@ pub fn declared_head_row(stack: &mut Stack, context: Context, one: Class) -> Res
 {
     match one {
         Class::In => stack.push(&[Take(Class::In), Read(Expr(context))]),
-        Class::Of => stack.push(&[Take(Class::Of), Read(Assign(context))]),
+        Class::Of => stack.push(&[Take(Class::Of), Read(Operation(Level::Assignment, context))]),
         _ => stack.push(&[
             Read(Initial(without_in(context))),
             Read(MoreBinds(without_in(context))),
@@ -49,16 +46,11 @@ pub fn left_head_row(stack: &mut Stack, context: Context, one: Class) -> Result<
 {
     match one {
         Class::In => stack.push(&[Take(Class::In), Read(Expr(context))]),
-        Class::Of => stack.push(&[Take(Class::Of), Read(Assign(context))]),
+        Class::Of => stack.push(&[Take(Class::Of), Read(Operation(Level::Assignment, context))]),
         _ => {
             let inner = without_in(context);
             stack.push(&[
-                Read(PostfixRest),
-                Read(PowerRest(inner)),
-                Read(Operators(3, inner)),
-                Read(Logical(inner)),
-                Read(CondRest(inner)),
-                Read(AssignRest(inner)),
+                Read(Rests(Level::Assignment, Level::Update, inner)),
                 Read(ExprRest(inner)),
                 Take(Class::Semicolon),
                 Read(OptionalExpr(context)),
@@ -71,19 +63,18 @@ pub fn left_head_row(stack: &mut Stack, context: Context, one: Class) -> Result<
 
 /// An expression that is no left-hand side begins.
 fn is_no_left(context: Context, look: Look) -> bool
-    ensures { result ≡ row.is_no_left context (seen look) }
+    ensures { result ≡ row.is_no_left context look }
 {
-    begins_unary(look.one)
+    look.one.unary_operator().is_some()
         || look.begins_arrow()
-        || (is_yield(look.one) && context.yields)
-        || is_slash(look.one)
+        || (look.one.is_yield() && context.yields)
 }
 
 /// A head that begins with an expression.
 fn expr_head_row(stack: &mut Stack, context: Context, look: Look) -> Result<(), Stop>
-    ensures { Pushed (step_of (row.expr_head_row context (seen look))) result stack.old stack.new }
+    ensures { Pushed (step_of (row.expr_head_row context look)) result stack.old stack.new }
 {
-    if is_async_word(look.one) && is_of(look.two) {
+    if look.one.is_async_word() && look.two.is_of() {
         left_out(OutsideKind::Async)
     } else if is_no_left(context, look) {
         stack.push(&[
@@ -94,12 +85,15 @@ fn expr_head_row(stack: &mut Stack, context: Context, look: Look) -> Result<(), 
             Read(OptionalExpr(context)),
         ])
     } else {
-        stack.push(&[Read(Left(context)), Read(LeftHead(context))])
+        stack.push(&[
+            Read(Operation(Level::Member, context)),
+            Read(LeftHead(context)),
+        ])
     }
 }
 
 pub fn head_row(stack: &mut Stack, context: Context, look: Look) -> Result<(), Stop>
-    ensures { Pushed (step_of (row.head_row context (seen look))) result stack.old stack.new }
+    ensures { Pushed (step_of (row.head_row context look)) result stack.old stack.new }
 {
     match look.one {
         Class::Var => stack.push(&[Take(Class::Var), Read(Bound), Read(DeclaredHead(context))]),

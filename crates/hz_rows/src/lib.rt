@@ -1,11 +1,10 @@
 // The rows of the grammar for a reader with a stack of symbols.
 //
 // The layer above relies on `expand`: what it puts onto the stack, or the cause with which it refuses, is the row that
-// the table in hz_tree's `specs/Grammar.antt` has for the nonterminal and the next two tokens (`specs/Pushed.antt`).
+// the table in hz_tree's `specs/grammar/Table.antt` has for the nonterminal and the next two tokens (`specs/Pushed.antt`).
 // The files are grouped as the table is, with one function for each nonterminal's row.
 #![tactic(auto)]
 
-mod classes;
 mod contexts;
 mod expressions;
 mod functions;
@@ -17,8 +16,6 @@ mod stack;
 mod statements;
 mod stop;
 mod table;
-#[cfg(test)]
-mod tests;
 
 pub use stack::Stack;
 pub use stop::Stop;

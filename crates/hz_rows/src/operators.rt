@@ -1,152 +1,202 @@
-//! Operators (ECMA-262, 13.4 to 13.13).
+//! Operations (ECMA-262, 13.3 to 13.16), arrows and `yield` (15.3 and 15.5).
 
-ghost use Rattle.std.specs.Prelude.{◌≤◌};
-ghost use Rattle.hz_tree.specs.declared.operator.BinaryOperator.{BinaryOperator};
-ghost use Rattle.hz_tree.specs.Grammar.{step_of};
-ghost use Rattle.hz_tree.specs.GrammarOperators as row;
-ghost use Rattle.hz_cursor.specs.Terminal.{seen};
+ghost use Rattle.std.specs.Prelude.{◌≡◌};
+ghost use Rattle.hz_tree.specs.grammar.Table.{step_of};
+ghost use Rattle.hz_tree.specs.grammar.OperatorRows as row;
+ghost use Rattle.hz_tree.specs.grammar.Operators as operators;
 ghost use Rattle.hz_rows.specs.Pushed.{Pushed};
 
+use crate::contexts::with_in;
 use crate::stack::Stack;
-use crate::stop::Stop;
-use hz_cursor::Look;
-use hz_tree::Nonterminal::{Coalesce, Left, Operators, PostfixRest, Power, PowerRest, Unary};
-use hz_tree::Symbol::{Read, Take};
-use hz_tree::{Class, Context};
+use crate::stop::{Stop, left_out};
+use hz_tree::Nonterminal::{
+    Args, ArrowBody, ArrowSign, Bound, Expr, Operation, OptionalTail, Params, Primary, Rests, Word,
+    YieldValue,
+};
+use hz_tree::Symbol::{Close, Count, Open, Read, Take};
+use hz_tree::{Class, Context, FunctionKind, Level, Look, OutsideKind};
 
-/// An operator of two operands of level `own`, from 1 to 10, where those of `level` and above are read.
-fn binary_row(
+fn arrow_row(
     stack: &mut Stack,
+    loosest: Level,
     context: Context,
-    level: u8,
-    own: u8,
-    one: Class,
+    parenthesised: bool,
 ) -> Result<(), Stop>
-    requires { own ≤ 10 }
-    ensures { (operator : BinaryOperator) →
-        Pushed (step_of (row.binary_row context level own one operator))
+    ensures { Pushed (step_of (row.arrow_row loosest context parenthesised))
         result stack.old stack.new }
 {
-    if level <= own {
+    if parenthesised {
         stack.push(&[
-            Take(one),
-            Read(Power(context)),
-            Read(Operators(own + 1, context)),
-            Read(Operators(level, context)),
+            Open(FunctionKind::Arrow),
+            Read(Params),
+            Read(ArrowSign),
+            Read(ArrowBody(context)),
+            Close,
         ])
     } else {
-        Ok(())
+        stack.push(&[
+            Open(FunctionKind::Arrow),
+            Read(Bound),
+            Count,
+            Read(ArrowSign),
+            Read(ArrowBody(context)),
+            Close,
+        ])
     }
 }
 
-/// `in`, which is no operator in the head of a `for`.
-fn in_row(stack: &mut Stack, context: Context, level: u8) -> Result<(), Stop>
-    ensures { Pushed (step_of (row.in_row context level context.no_in)) result stack.old stack.new }
+/// An operand with an operator before it, or one that begins with none.
+fn operand_row(stack: &mut Stack, loosest: Level, context: Context, one: Class) -> Result<(), Stop>
+    ensures { Pushed (step_of (row.operand_row loosest context one (operators.unary_operator one)))
+        result stack.old stack.new }
 {
-    if context.no_in {
-        Ok(())
-    } else {
-        binary_row(stack, context, level, 7, Class::In)
-    }
-}
-
-pub fn operators_row(stack: &mut Stack, level: u8, context: Context, one: Class) -> Result<(), Stop>
-    ensures { Pushed (step_of (row.operators_row level context one)) result stack.old stack.new }
-{
-    match one {
-        Class::OrOr => binary_row(stack, context, level, 1, one),
-        Class::AndAnd => binary_row(stack, context, level, 2, one),
-        Class::Or => binary_row(stack, context, level, 3, one),
-        Class::Xor => binary_row(stack, context, level, 4, one),
-        Class::And => binary_row(stack, context, level, 5, one),
-        Class::Equal | Class::NotEqual | Class::StrictEqual | Class::StrictNotEqual => {
-            binary_row(stack, context, level, 6, one)
-        }
-        Class::Less | Class::Greater | Class::LessEqual | Class::GreaterEqual | Class::InstanceOf =>
-            binary_row(stack, context, level, 7, one),
-        Class::In => in_row(stack, context, level),
-        Class::ShiftLeft | Class::ShiftRight | Class::ShiftRightZero => {
-            binary_row(stack, context, level, 8, one)
-        }
-        Class::Plus | Class::Minus => binary_row(stack, context, level, 9, one),
-        Class::Star | Class::Slash | Class::Percent => binary_row(stack, context, level, 10, one),
-        _ => Ok(()),
-    }
-}
-
-pub fn logical_row(stack: &mut Stack, context: Context, one: Class) -> Result<(), Stop>
-    ensures { Pushed (step_of (row.logical_row context one)) result stack.old stack.new }
-{
-    match one {
-        Class::Nullish => stack.push(&[Read(Coalesce(context))]),
-        Class::OrOr | Class::AndAnd => stack.push(&[Read(Operators(1, context))]),
-        _ => Ok(()),
-    }
-}
-
-pub fn coalesce_row(stack: &mut Stack, context: Context, one: Class) -> Result<(), Stop>
-    ensures { Pushed (step_of (row.coalesce_row context one)) result stack.old stack.new }
-{
-    match one {
-        Class::Nullish => stack.push(&[
-            Take(Class::Nullish),
-            Read(Power(context)),
-            Read(Operators(3, context)),
-            Read(Coalesce(context)),
+    match one.unary_operator() {
+        Some(operator) => stack.push(&[
+            Take(one),
+            Read(Operation(Level::Update, context)),
+            Read(Rests(loosest, operator.left(), context)),
         ]),
-        _ => Ok(()),
+        None => stack.push(&[
+            Read(Primary(context)),
+            Read(Rests(loosest, Level::Member, context)),
+        ]),
     }
 }
 
-pub fn power_row(stack: &mut Stack, context: Context, one: Class) -> Result<(), Stop>
-    ensures { Pushed (step_of (row.power_row context one)) result stack.old stack.new }
+fn is_loosest(level: Level) -> bool
+    ensures { result ≡ row.is_loosest level }
+{
+    matches!(level, Level::Assignment)
+}
+
+/// An operation that is no arrow.
+fn operation_by(
+    stack: &mut Stack,
+    loosest: Level,
+    context: Context,
+    yields: bool,
+    one: Class,
+) -> Result<(), Stop>
+    ensures { Pushed (step_of (row.operation_by loosest context yields one))
+        result stack.old stack.new }
 {
     match one {
-        Class::Delete
-        | Class::Void
-        | Class::TypeOf
-        | Class::Plus
-        | Class::Minus
-        | Class::Tilde
-        | Class::Not => stack.push(&[Read(Unary(context))]),
-        _ => stack.push(&[Read(Unary(context)), Read(PowerRest(context))]),
+        Class::Yield if yields => stack.push(&[Take(Class::Yield), Read(YieldValue(context))]),
+        _ => operand_row(stack, loosest, context, one),
     }
 }
 
-pub fn power_rest_row(stack: &mut Stack, context: Context, one: Class) -> Result<(), Stop>
-    ensures { Pushed (step_of (row.power_rest_row context one)) result stack.old stack.new }
+pub fn operation_row(
+    stack: &mut Stack,
+    loosest: Level,
+    context: Context,
+    look: Look,
+) -> Result<(), Stop>
+    ensures { Pushed (step_of (row.operation_row loosest context look)) result stack.old stack.new }
 {
+    if is_loosest(loosest) && look.begins_arrow() {
+        arrow_row(stack, loosest, context, look.one.is_paren())
+    } else {
+        let yields = is_loosest(loosest) && context.yields;
+        operation_by(stack, loosest, context, yields, look.one)
+    }
+}
+
+/// Whether a token goes on with an operation of these levels. `in` is no operator in the head of a `for`.
+fn reads_on(loosest: Level, tightest: Level, context: Context, newline: bool, one: Class) -> bool
+    ensures { result ≡ row.reads_on loosest tightest context newline one }
+{
+    !(one.is_in() && context.no_in)
+        && match one.level_behind(newline) {
+            Some(own) => own.is_between(loosest, tightest),
+            None => false,
+        }
+}
+
+/// An operator and what follows it.
+fn operator_row(
+    stack: &mut Stack,
+    loosest: Level,
+    tightest: Level,
+    context: Context,
+    one: Class,
+) -> Result<(), Stop>
+    ensures { Pushed (step_of (row.operator_row loosest tightest context one
+        (operators.assign_operator one) (operators.update_operator one)
+        (operators.binary_operator one))) result stack.old stack.new }
+{
+    if one.assign_operator().is_some() {
+        return stack.push(&[Take(one), Read(Operation(Level::Assignment, context))]);
+    }
+    if one.update_operator().is_some() {
+        return stack.push(&[Take(one), Read(Rests(loosest, Level::Power, context))]);
+    }
+    match one.binary_operator() {
+        Some(operator) => {
+            let own = operator.level();
+            stack.push(&[
+                Take(one),
+                Read(Operation(own.right(), context)),
+                Read(Rests(loosest, own.left(), context)),
+            ])
+        }
+        None => Ok(()),
+    }
+}
+
+/// A token that goes on with an operation.
+fn rest_row(
+    stack: &mut Stack,
+    loosest: Level,
+    tightest: Level,
+    context: Context,
+    one: Class,
+) -> Result<(), Stop>
+    ensures { Pushed (step_of (row.rest_row loosest tightest context one))
+        result stack.old stack.new }
+{
+    let members = Read(Rests(loosest, Level::Member, context));
     match one {
-        Class::StarStar => stack.push(&[Take(Class::StarStar), Read(Power(context))]),
-        _ => Ok(()),
+        Class::Dot => stack.push(&[Take(Class::Dot), Read(Word), members]),
+        Class::LeftBracket => stack.push(&[
+            Take(Class::LeftBracket),
+            Read(Expr(with_in(context))),
+            Take(Class::RightBracket),
+            members,
+        ]),
+        Class::LeftParen => stack.push(&[Read(Args(context)), members]),
+        Class::OptionalDot => {
+            stack.push(&[
+                Take(Class::OptionalDot),
+                Read(OptionalTail(context)),
+                members,
+            ])
+        }
+        Class::TemplateWhole | Class::TemplateHead => left_out(OutsideKind::TaggedTemplate),
+        Class::Question => stack.push(&[
+            Take(Class::Question),
+            Read(Operation(Level::Assignment, with_in(context))),
+            Take(Class::Colon),
+            Read(Operation(Level::Assignment, context)),
+            Read(Rests(loosest, Level::Assignment, context)),
+        ]),
+        _ => operator_row(stack, loosest, tightest, context, one),
     }
 }
 
-pub fn unary_row(stack: &mut Stack, context: Context, one: Class) -> Result<(), Stop>
-    ensures { Pushed (step_of (row.unary_row context one)) result stack.old stack.new }
+pub fn rests_row(
+    stack: &mut Stack,
+    loosest: Level,
+    tightest: Level,
+    context: Context,
+    look: Look,
+) -> Result<(), Stop>
+    ensures { Pushed (step_of (row.rests_row loosest tightest context look))
+        result stack.old stack.new }
 {
-    match one {
-        Class::Delete
-        | Class::Void
-        | Class::TypeOf
-        | Class::Plus
-        | Class::Minus
-        | Class::Tilde
-        | Class::Not
-        | Class::PlusPlus
-        | Class::MinusMinus => stack.push(&[Take(one), Read(Unary(context))]),
-        _ => stack.push(&[Read(Left(context)), Read(PostfixRest)]),
-    }
-}
-
-pub fn postfix_rest_row(stack: &mut Stack, look: Look) -> Result<(), Stop>
-    ensures { Pushed (step_of (row.postfix_rest_row (seen look))) result stack.old stack.new }
-{
-    if look.one_newline {
-        return Ok(());
-    }
-    match look.one {
-        Class::PlusPlus | Class::MinusMinus => stack.push(&[Take(look.one)]),
-        _ => Ok(()),
+    if reads_on(loosest, tightest, context, look.one_newline, look.one) {
+        rest_row(stack, loosest, tightest, context, look.one)
+    } else {
+        Ok(())
     }
 }

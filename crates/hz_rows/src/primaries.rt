@@ -1,52 +1,18 @@
-//! Left-hand sides, calls, primary expressions and templates (ECMA-262, 13.2 and 13.3).
+//! Members, arguments, primary expressions and templates (ECMA-262, 13.2 and 13.3).
 
-ghost use Rattle.hz_tree.specs.Grammar.{step_of};
-ghost use Rattle.hz_tree.specs.GrammarPrimaries as row;
-ghost use Rattle.hz_cursor.specs.Terminal.{seen};
+ghost use Rattle.hz_tree.specs.grammar.Table.{step_of};
+ghost use Rattle.hz_tree.specs.grammar.PrimaryRows as row;
 ghost use Rattle.hz_rows.specs.Pushed.{Pushed};
 
 use crate::contexts::with_in;
 use crate::stack::Stack;
 use crate::stop::{Stop, left_out, stuck};
-use hz_cursor::{Look, is_name, is_word};
 use hz_tree::Nonterminal::{
-    Args, Argument, Arguments, Assign, Body, Callee, Elements, Expr, Members, MoreArguments,
-    MoreElements, New, NewArgs, OptionalTail, OwnName, Params, Primary, Props, Tails, TemplateRest,
-    Word,
+    Args, Argument, Arguments, Body, Elements, Expr, Members, MoreArguments, MoreElements, NewArgs,
+    Operation, OwnName, Params, Primary, Props, TemplateRest, Word,
 };
 use hz_tree::Symbol::{Close, Open, Read, Take};
-use hz_tree::{BadKind, Class, Context, FunctionKind, OutsideKind};
-
-pub fn left_row(stack: &mut Stack, context: Context, one: Class) -> Result<(), Stop>
-    ensures { Pushed (step_of (row.left_row context one)) result stack.old stack.new }
-{
-    match one {
-        Class::New => stack.push(&[Read(New(context)), Read(Tails(context))]),
-        _ => stack.push(&[Read(Primary(context)), Read(Tails(context))]),
-    }
-}
-
-pub fn tails_row(stack: &mut Stack, context: Context, one: Class) -> Result<(), Stop>
-    ensures { Pushed (step_of (row.tails_row context one)) result stack.old stack.new }
-{
-    match one {
-        Class::Dot => stack.push(&[Take(Class::Dot), Read(Word), Read(Tails(context))]),
-        Class::LeftBracket => stack.push(&[
-            Take(Class::LeftBracket),
-            Read(Expr(with_in(context))),
-            Take(Class::RightBracket),
-            Read(Tails(context)),
-        ]),
-        Class::LeftParen => stack.push(&[Read(Args(context)), Read(Tails(context))]),
-        Class::OptionalDot => stack.push(&[
-            Take(Class::OptionalDot),
-            Read(OptionalTail(context)),
-            Read(Tails(context)),
-        ]),
-        Class::TemplateWhole | Class::TemplateHead => left_out(OutsideKind::TaggedTemplate),
-        _ => Ok(()),
-    }
-}
+use hz_tree::{BadKind, Class, Context, FunctionKind, Level, Look, OutsideKind};
 
 pub fn optional_tail_row(stack: &mut Stack, context: Context, one: Class) -> Result<(), Stop>
     ensures { Pushed (step_of (row.optional_tail_row context one)) result stack.old stack.new }
@@ -64,35 +30,27 @@ pub fn optional_tail_row(stack: &mut Stack, context: Context, one: Class) -> Res
 }
 
 pub fn word_row(stack: &mut Stack, look: Look) -> Result<(), Stop>
-    ensures { Pushed (step_of (row.word_row (seen look))) result stack.old stack.new }
+    ensures { Pushed (step_of (row.word_row look)) result stack.old stack.new }
 {
-    if is_word(look.one) {
+    if look.one.is_word() {
         stack.push(&[Take(look.one)])
     } else {
         stuck(look)
     }
 }
 
-pub fn new_row(stack: &mut Stack, context: Context, two: Class) -> Result<(), Stop>
+/// A `new`, where it stands.
+fn new_row(stack: &mut Stack, context: Context, two: Class) -> Result<(), Stop>
     ensures { Pushed (step_of (row.new_row context two)) result stack.old stack.new }
 {
     match two {
         Class::Dot => stack.push(&[Take(Class::New), Take(Class::Dot), Take(Class::Target)]),
         _ => stack.push(&[
             Take(Class::New),
-            Read(Callee(context)),
+            Read(Primary(context)),
             Read(Members(context)),
             Read(NewArgs(context)),
         ]),
-    }
-}
-
-pub fn callee_row(stack: &mut Stack, context: Context, one: Class) -> Result<(), Stop>
-    ensures { Pushed (step_of (row.callee_row context one)) result stack.old stack.new }
-{
-    match one {
-        Class::New => stack.push(&[Read(New(context))]),
-        _ => stack.push(&[Read(Primary(context))]),
     }
 }
 
@@ -153,8 +111,11 @@ pub fn argument_row(stack: &mut Stack, context: Context, one: Class) -> Result<(
     ensures { Pushed (step_of (row.argument_row context one)) result stack.old stack.new }
 {
     match one {
-        Class::Ellipsis => stack.push(&[Take(Class::Ellipsis), Read(Assign(context))]),
-        _ => stack.push(&[Read(Assign(context))]),
+        Class::Ellipsis => stack.push(&[
+            Take(Class::Ellipsis),
+            Read(Operation(Level::Assignment, context)),
+        ]),
+        _ => stack.push(&[Read(Operation(Level::Assignment, context))]),
     }
 }
 
@@ -186,7 +147,7 @@ fn function_expression_row(stack: &mut Stack, context: Context, two: Class) -> R
 
 /// A primary expression that is no async function.
 fn primary_by(stack: &mut Stack, context: Context, look: Look) -> Result<(), Stop>
-    ensures { Pushed (step_of (row.primary_by context (seen look) look.one))
+    ensures { Pushed (step_of (row.primary_by context look look.one))
         result stack.old stack.new }
 {
     match look.one {
@@ -208,6 +169,8 @@ fn primary_by(stack: &mut Stack, context: Context, look: Look) -> Result<(), Sto
             Read(Expr(with_in(context))),
             Read(TemplateRest(with_in(context))),
         ]),
+        Class::New => new_row(stack, context, look.two),
+        Class::Slash | Class::SlashAssign => left_out(OutsideKind::RegExp),
         Class::Function => function_expression_row(stack, context, look.two),
         Class::LeftBracket => stack.push(&[
             Take(Class::LeftBracket),
@@ -220,7 +183,7 @@ fn primary_by(stack: &mut Stack, context: Context, look: Look) -> Result<(), Sto
             Take(Class::RightBrace),
         ]),
         one => {
-            if is_name(one) {
+            if one.is_name() {
                 stack.push(&[Take(Class::Name)])
             } else {
                 stuck(look)
@@ -230,7 +193,7 @@ fn primary_by(stack: &mut Stack, context: Context, look: Look) -> Result<(), Sto
 }
 
 pub fn primary_row(stack: &mut Stack, context: Context, look: Look) -> Result<(), Stop>
-    ensures { Pushed (step_of (row.primary_row context (seen look))) result stack.old stack.new }
+    ensures { Pushed (step_of (row.primary_row context look)) result stack.old stack.new }
 {
     if look.is_async() {
         left_out(OutsideKind::Async)
@@ -240,7 +203,7 @@ pub fn primary_row(stack: &mut Stack, context: Context, look: Look) -> Result<()
 }
 
 pub fn template_rest_row(stack: &mut Stack, context: Context, look: Look) -> Result<(), Stop>
-    ensures { Pushed (step_of (row.template_rest_row context (seen look)))
+    ensures { Pushed (step_of (row.template_rest_row context look))
         result stack.old stack.new }
 {
     match look.one {

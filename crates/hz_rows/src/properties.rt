@@ -1,20 +1,18 @@
 //! The properties of object literals (ECMA-262, 13.2.5).
 
-ghost use Rattle.hz_tree.specs.Grammar.{step_of};
-ghost use Rattle.hz_tree.specs.GrammarProperties as row;
-ghost use Rattle.hz_cursor.specs.Terminal.{seen};
+ghost use Rattle.hz_tree.specs.grammar.Table.{step_of};
+ghost use Rattle.hz_tree.specs.grammar.Classes as classes;
+ghost use Rattle.hz_tree.specs.grammar.PropertyRows as row;
 ghost use Rattle.hz_rows.specs.Pushed.{Pushed};
 
-use crate::classes::{begins_key, is_colon, is_paren};
 use crate::stack::Stack;
 use crate::stop::{Stop, left_out, stuck};
-use hz_cursor::{Look, is_name};
 use hz_tree::Nonterminal::{
-    Assign, Body, Bound, Key, KeyRest, MoreProps, ParameterEnd, Params, Prop, Props, ShorthandEnd,
-    Word,
+    Body, Bound, Key, KeyRest, MoreProps, Operation, ParameterEnd, Params, Prop, Props,
+    ShorthandEnd, Word,
 };
 use hz_tree::Symbol::{Close, Count, Open, Read, Take};
-use hz_tree::{Class, Context, FunctionKind, OutsideKind};
+use hz_tree::{Class, Context, FunctionKind, Level, Look, OutsideKind};
 
 pub fn props_row(stack: &mut Stack, context: Context, one: Class) -> Result<(), Stop>
     ensures { Pushed (step_of (row.props_row context one)) result stack.old stack.new }
@@ -36,9 +34,9 @@ pub fn more_props_row(stack: &mut Stack, context: Context, one: Class) -> Result
 
 /// A property that is no getter, setter, generator or spread.
 fn plain_prop_row(stack: &mut Stack, context: Context, look: Look) -> Result<(), Stop>
-    ensures { Pushed (step_of (row.plain_prop_row context (seen look))) result stack.old stack.new }
+    ensures { Pushed (step_of (row.plain_prop_row context look)) result stack.old stack.new }
 {
-    if is_name(look.one) && !is_colon(look.two) && !is_paren(look.two) {
+    if look.one.is_name() && !look.two.is_colon() && !look.two.is_paren() {
         stack.push(&[Take(Class::Name), Read(ShorthandEnd)])
     } else {
         stack.push(&[Read(Key(context)), Read(KeyRest(context))])
@@ -47,10 +45,10 @@ fn plain_prop_row(stack: &mut Stack, context: Context, look: Look) -> Result<(),
 
 /// A getter, or another property whose name is `get`.
 fn getter_row(stack: &mut Stack, context: Context, look: Look) -> Result<(), Stop>
-    ensures { Pushed (step_of (row.getter_row context (seen look) (row.begins_key look.two)))
+    ensures { Pushed (step_of (row.getter_row context look (classes.begins_key look.two)))
         result stack.old stack.new }
 {
-    if begins_key(look.two) {
+    if look.two.begins_key() {
         stack.push(&[
             Take(Class::Get),
             Read(Key(context)),
@@ -67,10 +65,10 @@ fn getter_row(stack: &mut Stack, context: Context, look: Look) -> Result<(), Sto
 
 /// A setter, or another property whose name is `set`.
 fn setter_row(stack: &mut Stack, context: Context, look: Look) -> Result<(), Stop>
-    ensures { Pushed (step_of (row.setter_row context (seen look) (row.begins_key look.two)))
+    ensures { Pushed (step_of (row.setter_row context look (classes.begins_key look.two)))
         result stack.old stack.new }
 {
-    if begins_key(look.two) {
+    if look.two.begins_key() {
         stack.push(&[
             Take(Class::Set),
             Read(Key(context)),
@@ -90,11 +88,14 @@ fn setter_row(stack: &mut Stack, context: Context, look: Look) -> Result<(), Sto
 
 /// A property that is no async method.
 fn prop_by(stack: &mut Stack, context: Context, look: Look) -> Result<(), Stop>
-    ensures { Pushed (step_of (row.prop_by context (seen look) look.one))
+    ensures { Pushed (step_of (row.prop_by context look look.one))
         result stack.old stack.new }
 {
     match look.one {
-        Class::Ellipsis => stack.push(&[Take(Class::Ellipsis), Read(Assign(context))]),
+        Class::Ellipsis => stack.push(&[
+            Take(Class::Ellipsis),
+            Read(Operation(Level::Assignment, context)),
+        ]),
         Class::Star => stack.push(&[
             Take(Class::Star),
             Read(Key(context)),
@@ -110,7 +111,7 @@ fn prop_by(stack: &mut Stack, context: Context, look: Look) -> Result<(), Stop>
 }
 
 pub fn prop_row(stack: &mut Stack, context: Context, look: Look) -> Result<(), Stop>
-    ensures { Pushed (step_of (row.prop_row context (seen look))) result stack.old stack.new }
+    ensures { Pushed (step_of (row.prop_row context look)) result stack.old stack.new }
 {
     if look.is_async() {
         left_out(OutsideKind::Async)
@@ -129,10 +130,13 @@ pub fn shorthand_end_row(stack: &mut Stack, one: Class) -> Result<(), Stop>
 }
 
 pub fn key_rest_row(stack: &mut Stack, context: Context, look: Look) -> Result<(), Stop>
-    ensures { Pushed (step_of (row.key_rest_row context (seen look))) result stack.old stack.new }
+    ensures { Pushed (step_of (row.key_rest_row context look)) result stack.old stack.new }
 {
     match look.one {
-        Class::Colon => stack.push(&[Take(Class::Colon), Read(Assign(context))]),
+        Class::Colon => stack.push(&[
+            Take(Class::Colon),
+            Read(Operation(Level::Assignment, context)),
+        ]),
         Class::LeftParen => stack.push(&[
             Open(FunctionKind::Method),
             Read(Params),
@@ -144,13 +148,13 @@ pub fn key_rest_row(stack: &mut Stack, context: Context, look: Look) -> Result<(
 }
 
 pub fn key_row(stack: &mut Stack, context: Context, look: Look) -> Result<(), Stop>
-    ensures { Pushed (step_of (row.key_row context (seen look))) result stack.old stack.new }
+    ensures { Pushed (step_of (row.key_row context look)) result stack.old stack.new }
 {
     match look.one {
         Class::Text | Class::Number | Class::OctalNumber => stack.push(&[Take(look.one)]),
         Class::LeftBracket => stack.push(&[
             Take(Class::LeftBracket),
-            Read(Assign(context)),
+            Read(Operation(Level::Assignment, context)),
             Take(Class::RightBracket),
         ]),
         _ => stack.push(&[Read(Word)]),

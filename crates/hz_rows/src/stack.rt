@@ -20,7 +20,7 @@ impl Model for Stack {
 
 impl Stack {
     ghost use Rattle.std.specs.Prelude.{◌≡◌, [], ◌∷◌, MatchOption};
-    ghost use Rattle.hz_tree.specs.Grammar.{pushes};
+    ghost use Rattle.hz_tree.specs.grammar.Table.{pushes};
     ghost use Rattle.hz_rows.specs.Pushed.{Pushed};
 
     /// An empty stack.

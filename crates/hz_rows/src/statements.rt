@@ -1,23 +1,20 @@
 //! Items and statements (ECMA-262, 14 and 16).
 
-ghost use Rattle.hz_tree.specs.Grammar.{step_of};
-ghost use Rattle.hz_tree.specs.GrammarStatements as row;
-ghost use Rattle.hz_tree.specs.Look.{Look as Seen};
-ghost use Rattle.hz_cursor.specs.Terminal.{seen};
+ghost use Rattle.hz_tree.specs.grammar.Table.{step_of};
+ghost use Rattle.hz_tree.specs.grammar.StatementRows as row;
+ghost use Rattle.hz_tree.specs.declared.look.Look.{Look as Seen};
 ghost use Rattle.hz_rows.specs.Pushed.{Pushed};
 
-use crate::classes::is_colon;
 use crate::contexts::of_script;
 use crate::stack::Stack;
 use crate::stop::{Stop, left_out, stuck};
-use hz_cursor::{Look, is_name};
 use hz_tree::Nonterminal::{
-    Assign, Bind, Binds, Block, Body, Bound, CatchClause, CatchName, Clauses, Else, Expr, Finally,
-    ForOpen, Handlers, Head, Initial, Item, Items, Label, LooseSemi, MoreBinds, Params,
+    Bind, Binds, Block, Body, Bound, CatchClause, CatchName, Clauses, Else, Expr, Finally, ForOpen,
+    Handlers, Head, Initial, Item, Items, Label, LooseSemi, MoreBinds, Operation, Params,
     ReturnValue, Semi, Statement, ThrowValue,
 };
 use hz_tree::Symbol::{Close, Open, Read, Take};
-use hz_tree::{BadKind, Class, Context, FunctionKind, OutsideKind};
+use hz_tree::{BadKind, Class, Context, FunctionKind, Level, Look, OutsideKind};
 
 pub fn script_row(stack: &mut Stack) -> Result<(), Stop>
     ensures { Pushed (step_of row.script_row) result stack.old stack.new }
@@ -72,12 +69,12 @@ pub fn item_row(stack: &mut Stack, context: Context, one: Class, two: Class) -> 
 }
 
 pub fn bound_row(stack: &mut Stack, look: Look) -> Result<(), Stop>
-    ensures { Pushed (step_of (row.bound_row (seen look))) result stack.old stack.new }
+    ensures { Pushed (step_of (row.bound_row look)) result stack.old stack.new }
 {
     match look.one {
         Class::LeftBracket | Class::LeftBrace => left_out(OutsideKind::Pattern),
         one => {
-            if is_name(one) {
+            if one.is_name() {
                 stack.push(&[Take(Class::Name)])
             } else {
                 stuck(look)
@@ -87,7 +84,7 @@ pub fn bound_row(stack: &mut Stack, look: Look) -> Result<(), Stop>
 }
 
 pub fn semi_row(stack: &mut Stack, look: Look) -> Result<(), Stop>
-    ensures { Pushed (step_of (row.semi_row (seen look))) result stack.old stack.new }
+    ensures { Pushed (step_of (row.semi_row look)) result stack.old stack.new }
 {
     match look.one {
         Class::Semicolon => stack.push(&[Take(Class::Semicolon)]),
@@ -138,7 +135,10 @@ pub fn initial_row(stack: &mut Stack, context: Context, one: Class) -> Result<()
     ensures { Pushed (step_of (row.initial_row context one)) result stack.old stack.new }
 {
     match one {
-        Class::Assign => stack.push(&[Take(Class::Assign), Read(Assign(context))]),
+        Class::Assign => stack.push(&[
+            Take(Class::Assign),
+            Read(Operation(Level::Assignment, context)),
+        ]),
         _ => Ok(()),
     }
 }
@@ -234,7 +234,7 @@ fn switch_statement(stack: &mut Stack, context: Context) -> Result<(), Stop>
 
 /// A statement that does not begin with a label.
 fn statement_by(stack: &mut Stack, context: Context, look: Look) -> Result<(), Stop>
-    ensures { Pushed (step_of (row.statement_by context (seen look) look.one))
+    ensures { Pushed (step_of (row.statement_by context look look.one))
         result stack.old stack.new }
 {
     match look.one {
@@ -262,11 +262,11 @@ fn statement_by(stack: &mut Stack, context: Context, look: Look) -> Result<(), S
 }
 
 pub fn statement_row(stack: &mut Stack, context: Context, look: Look) -> Result<(), Stop>
-    ensures { Pushed (step_of (row.statement_row context (seen look))) result stack.old stack.new }
+    ensures { Pushed (step_of (row.statement_row context look)) result stack.old stack.new }
 {
     if look.is_async() {
         left_out(OutsideKind::Async)
-    } else if is_name(look.one) && is_colon(look.two) {
+    } else if look.one.is_name() && look.two.is_colon() {
         stack.push(&[
             Take(Class::Name),
             Take(Class::Colon),
@@ -287,9 +287,9 @@ pub fn else_row(stack: &mut Stack, context: Context, one: Class) -> Result<(), S
 }
 
 pub fn label_row(stack: &mut Stack, look: Look) -> Result<(), Stop>
-    ensures { Pushed (step_of (row.label_row (seen look))) result stack.old stack.new }
+    ensures { Pushed (step_of (row.label_row look)) result stack.old stack.new }
 {
-    if !look.one_newline && is_name(look.one) {
+    if !look.one_newline && look.one.is_name() {
         stack.push(&[Take(Class::Name)])
     } else {
         Ok(())
@@ -297,7 +297,7 @@ pub fn label_row(stack: &mut Stack, look: Look) -> Result<(), Stop>
 }
 
 pub fn return_value_row(stack: &mut Stack, context: Context, look: Look) -> Result<(), Stop>
-    ensures { Pushed (step_of (row.return_value_row context (seen look)))
+    ensures { Pushed (step_of (row.return_value_row context look))
         result stack.old stack.new }
 {
     if look.one_newline {
@@ -310,7 +310,7 @@ pub fn return_value_row(stack: &mut Stack, context: Context, look: Look) -> Resu
 }
 
 pub fn throw_value_row(stack: &mut Stack, context: Context, look: Look) -> Result<(), Stop>
-    ensures { Pushed (step_of (row.throw_value_row context (seen look)))
+    ensures { Pushed (step_of (row.throw_value_row context look))
         result stack.old stack.new }
 {
     if look.one_newline {
@@ -354,7 +354,7 @@ pub fn clauses_row(
 }
 
 pub fn handlers_row(stack: &mut Stack, context: Context, look: Look) -> Result<(), Stop>
-    ensures { Pushed (step_of (row.handlers_row context (seen look))) result stack.old stack.new }
+    ensures { Pushed (step_of (row.handlers_row context look)) result stack.old stack.new }
 {
     match look.one {
         Class::Catch => stack.push(&[Read(CatchClause(context)), Read(Finally(context))]),

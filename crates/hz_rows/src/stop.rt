@@ -1,9 +1,7 @@
 ghost use Rattle.std.specs.Prelude.{◌≡◌, Err};
-ghost use Rattle.hz_tree.specs.Look as spec;
-ghost use Rattle.hz_cursor.specs.Terminal.{seen};
+ghost use Rattle.hz_tree.specs.grammar.Look as spec;
 
-use hz_cursor::Look;
-use hz_tree::{BadKind, OutsideKind};
+use hz_tree::{BadKind, Look, OutsideKind};
 use std::alloc::AllocFailed;
 
 /// Why a nonterminal was not expanded.
@@ -36,7 +34,7 @@ pub fn left_out(kind: OutsideKind) -> Result<(), Stop>
 
 /// Refuses the first of the next tokens, where no rule says otherwise.
 pub fn stuck(look: Look) -> Result<(), Stop>
-    ensures { result ≡ Err (Stop.Refused (spec.stuck (seen look))) }
+    ensures { result ≡ Err (Stop.Refused (spec.stuck look)) }
 {
     Err(Stop::Refused(look.cause()))
 }

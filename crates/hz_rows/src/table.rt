@@ -1,12 +1,10 @@
-ghost use Rattle.hz_tree.specs.Grammar.{step};
-ghost use Rattle.hz_cursor.specs.Terminal.{seen};
+ghost use Rattle.hz_tree.specs.grammar.Table.{step};
 ghost use Rattle.hz_rows.specs.Pushed.{Pushed};
 
 use crate::stack::Stack;
 use crate::stop::Stop;
 use crate::{expressions, functions, heads, operators, primaries, properties, statements};
-use hz_cursor::Look;
-use hz_tree::Nonterminal;
+use hz_tree::{Look, Nonterminal};
 
 /// Expands a nonterminal that was taken from the stack, where the next two tokens are as in `look`. The rows are
 /// those of ECMA-262's syntactic grammar (13 to 16), without the parts that `OutsideKind` lists.
@@ -15,7 +13,7 @@ use hz_tree::Nonterminal;
 /// - `Refused`: no right-hand side begins with these tokens. The cause is the row's, and the stack is as it was.
 /// - `Memory`: there is a right-hand side, and no memory for it. What lies on the stack then is left open.
 pub fn expand(stack: &mut Stack, nonterminal: Nonterminal, look: Look) -> Result<(), Stop>
-    ensures { Pushed (step nonterminal (seen look)) result stack.old stack.new }
+    ensures { Pushed (step nonterminal look) result stack.old stack.new }
 {
     match nonterminal {
         Nonterminal::Script => statements::script_row(stack),
@@ -51,29 +49,19 @@ pub fn expand(stack: &mut Stack, nonterminal: Nonterminal, look: Look) -> Result
         Nonterminal::OptionalExpr(context) => heads::optional_expr_row(stack, context, look.one),
         Nonterminal::Expr(context) => expressions::expr_row(stack, context),
         Nonterminal::ExprRest(context) => expressions::expr_rest_row(stack, context, look.one),
-        Nonterminal::Assign(context) => expressions::assign_row(stack, context, look),
-        Nonterminal::AssignRest(context) => expressions::assign_rest_row(stack, context, look.one),
+        Nonterminal::Operation(loosest, context) => {
+            operators::operation_row(stack, loosest, context, look)
+        }
+        Nonterminal::Rests(loosest, tightest, context) => {
+            operators::rests_row(stack, loosest, tightest, context, look)
+        }
         Nonterminal::ArrowSign => expressions::arrow_sign_row(stack, look),
         Nonterminal::ArrowBody(context) => expressions::arrow_body_row(stack, context, look.one),
         Nonterminal::YieldValue(context) => expressions::yield_value_row(stack, context, look),
-        Nonterminal::CondRest(context) => expressions::cond_rest_row(stack, context, look.one),
-        Nonterminal::Logical(context) => operators::logical_row(stack, context, look.one),
-        Nonterminal::Coalesce(context) => operators::coalesce_row(stack, context, look.one),
-        Nonterminal::Operators(level, context) => operators::operators_row(
-            stack, level, context, look.one,
-        ),
-        Nonterminal::Power(context) => operators::power_row(stack, context, look.one),
-        Nonterminal::PowerRest(context) => operators::power_rest_row(stack, context, look.one),
-        Nonterminal::Unary(context) => operators::unary_row(stack, context, look.one),
-        Nonterminal::PostfixRest => operators::postfix_rest_row(stack, look),
-        Nonterminal::Left(context) => primaries::left_row(stack, context, look.one),
-        Nonterminal::Tails(context) => primaries::tails_row(stack, context, look.one),
         Nonterminal::OptionalTail(context) => primaries::optional_tail_row(
             stack, context, look.one,
         ),
         Nonterminal::Word => primaries::word_row(stack, look),
-        Nonterminal::New(context) => primaries::new_row(stack, context, look.two),
-        Nonterminal::Callee(context) => primaries::callee_row(stack, context, look.one),
         Nonterminal::Members(context) => primaries::members_row(stack, context, look.one),
         Nonterminal::NewArgs(context) => primaries::new_args_row(stack, context, look.one),
         Nonterminal::Args(context) => primaries::args_row(stack, context),

@@ -146,6 +146,143 @@ pub enum Class {
     Character,
 }
 
+impl Class {
+    ghost use Rattle.std.specs.Prelude.{◌≡◌};
+    ghost use Rattle.hz_tree.specs.grammar.Classes as spec;
+
+    /// A token of the class `found` stands where the grammar wants one of this class.
+    pub fn fits(self, found: Class) -> bool
+        ensures { result ≡ spec.fits self found }
+    {
+        match self {
+            Class::Name => found.is_name(),
+            _ => self.is_same(found),
+        }
+    }
+
+    #[tactic(auto, unfolding(crate::specs::grammar::Classes::same_class))]
+    fn is_same(self, other: Class) -> bool
+        ensures { result ≡ spec.same_class self other }
+    {
+        self == other
+    }
+
+    /// A name, those among them that a rule spells out.
+    pub fn is_name(self) -> bool
+        ensures { result ≡ spec.is_name self }
+    {
+        matches!(
+            self,
+            Class::Name
+                | Class::Async
+                | Class::Await
+                | Class::Get
+                | Class::Of
+                | Class::Set
+                | Class::Target
+        )
+    }
+
+    /// A reserved word.
+    pub fn is_reserved_word(self) -> bool
+        ensures { result ≡ spec.is_reserved_word self }
+    {
+        match self {
+            Class::Break
+            | Class::Case
+            | Class::Catch
+            | Class::Class
+            | Class::Const
+            | Class::Continue
+            | Class::Debugger
+            | Class::Default
+            | Class::Delete => true,
+            Class::Do
+            | Class::Else
+            | Class::Export
+            | Class::False
+            | Class::Finally
+            | Class::For
+            | Class::Function
+            | Class::If
+            | Class::Import => true,
+            Class::In
+            | Class::InstanceOf
+            | Class::Let
+            | Class::New
+            | Class::Null
+            | Class::Return
+            | Class::Super
+            | Class::Switch
+            | Class::This => true,
+            Class::Throw
+            | Class::True
+            | Class::Try
+            | Class::TypeOf
+            | Class::Var
+            | Class::Void
+            | Class::While
+            | Class::With
+            | Class::Yield => true,
+            Class::Reserved => true,
+            _ => false,
+        }
+    }
+
+    /// IdentifierName (ECMA-262, 12.7): a name or any reserved word.
+    pub fn is_word(self) -> bool
+        ensures { result ≡ spec.is_word self }
+    {
+        self.is_name() || self.is_reserved_word()
+    }
+
+    pub fn is_paren(self) -> bool
+        ensures { result ≡ spec.is_paren self }
+    {
+        matches!(self, Class::LeftParen)
+    }
+
+    pub fn is_async_word(self) -> bool
+        ensures { result ≡ spec.is_async_word self }
+    {
+        matches!(self, Class::Async)
+    }
+
+    pub fn is_colon(self) -> bool
+        ensures { result ≡ spec.is_colon self }
+    {
+        matches!(self, Class::Colon)
+    }
+
+    pub fn is_in(self) -> bool
+        ensures { result ≡ spec.is_in self }
+    {
+        matches!(self, Class::In)
+    }
+
+    pub fn is_of(self) -> bool
+        ensures { result ≡ spec.is_of self }
+    {
+        matches!(self, Class::Of)
+    }
+
+    pub fn is_yield(self) -> bool
+        ensures { result ≡ spec.is_yield self }
+    {
+        matches!(self, Class::Yield)
+    }
+
+    /// The key of a property.
+    pub fn begins_key(self) -> bool
+        ensures { result ≡ spec.begins_key self }
+    {
+        match self {
+            Class::Text | Class::Number | Class::OctalNumber | Class::LeftBracket => true,
+            _ => self.is_word(),
+        }
+    }
+}
+
 /// The brackets that enclose.
 #[derive(Clone, Copy, Debug, PartialEq, Eq)]
 pub enum Bracket {

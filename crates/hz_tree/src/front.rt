@@ -2,7 +2,7 @@ use crate::token::TokenKind;
 
 /// What stands at the front of a text and may repeat there, such as a digit or an escape.
 #[derive(Clone, Copy, Debug)]
-pub struct Part {
+pub struct Stretch {
     /// Its length in bytes, 0 where nothing of the kind stands there.
     pub len: usize,
 

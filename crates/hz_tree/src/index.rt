@@ -106,7 +106,7 @@ pub struct Index<'a> {
 
 impl<'a> Model for Index<'a> {
     ghost use Rattle.std.specs.Prelude.{◌≡◌, None};
-    ghost use Rattle.hz_tree.specs.Refusals.{Accepted, refusal_of, functions as functions_in};
+    ghost use Rattle.hz_tree.specs.sources.Refusals.{Accepted, refusal_of, functions as functions_in};
 
     ghost Value = { Accepted };
 
@@ -117,7 +117,7 @@ impl<'a> Model for Index<'a> {
 
 impl<'a> Index<'a> {
     ghost use Rattle.std.specs.Prelude.{◌≡◌, ◌<◌, length, slice_get, Some, None};
-    ghost use Rattle.hz_tree.specs.Refusals.{refusal_of, functions as functions_in};
+    ghost use Rattle.hz_tree.specs.sources.Refusals.{refusal_of, functions as functions_in};
 
     /// `strict` tells that the source is read as strict code whether it says so or not.
     pub fn new(source: &'a [u8], strict: bool, functions: FunctionInfos) -> Index<'a>

@@ -1,30 +1,32 @@
 // The types that the stages of the front end share: tokens, the grammar's symbols, trees, and the reasons for which
 // a source is refused.
 //
-// The layer above relies on the definitions in `specs/`: `specs/Tokens.antt` says what the tokens of a source are, in
-// the terms of ECMA-262, clause 12, and `specs/Grammar.antt` is the grammar as one table, which `specs/Reading.antt`
+// The layer above relies on the definitions in `specs/`: `specs/tokens/Tokens.antt` says what the tokens of a source are, in
+// the terms of ECMA-262, clause 12, and `specs/grammar/Table.antt` is the grammar as one table, which `specs/reading/Reading.antt`
 // unfolds. They speak of sources in UTF-8, byte by byte.
 #![tactic(auto)]
 
 mod class;
 mod front;
 mod index;
+mod look;
 mod nonterminal;
 mod operator;
+mod operators;
 mod outside;
 mod refusal;
 mod symbol;
-#[cfg(test)]
-mod tests;
 mod token;
 mod tree;
 
 pub use class::{Bracket, Bracketing, Class};
-pub use front::{Front, Part};
+pub use front::{Front, Stretch};
 pub use index::{FunctionInfo, FunctionInfos, Index};
+pub use look::Look;
 pub use nonterminal::{Context, Nonterminal};
 pub use operator::{
-    AssignOperator, BinaryOperator, DeclarationWord, Iteration, UnaryOperator, UpdateOperator,
+    AssignOperator, BinaryOperator, DeclarationWord, Iteration, Level, UnaryOperator,
+    UpdateOperator,
 };
 pub use outside::{BadKind, OutsideKind};
 pub use refusal::Refusal;

@@ -1,3 +1,5 @@
+use crate::operator::Level;
+
 /// The parameters of a rule, ECMA-262's \[Return\], \[Yield\] and \[In\] (5.1.5).
 #[derive(Clone, Copy, Debug, PartialEq, Eq)]
 pub struct Context {
@@ -64,41 +66,29 @@ pub enum Nonterminal {
     // Expressions.
     Expr(Context),
     ExprRest(Context),
-    Assign(Context),
-    AssignRest(Context),
+
+    /// An expression of operators that bind at least as tightly as the level; an arrow and a `yield` are of the loosest.
+    Operation(Level, Context),
+
+    /// The operators behind an operand and what they stand before: those from the first level to the second.
+    Rests(Level, Level, Context),
     ArrowSign,
     ArrowBody(Context),
     YieldValue(Context),
-    CondRest(Context),
 
-    // Operators.
-    /// What follows the first operand of `??`, `||` or `&&`.
-    Logical(Context),
-    Coalesce(Context),
-
-    /// Operators that bind at least as tightly as the level says, each with its right operand.
-    Operators(u8, Context),
-    Power(Context),
-    PowerRest(Context),
-    Unary(Context),
-    PostfixRest,
-
-    // Left-hand sides and primary expressions.
-    Left(Context),
-    Tails(Context),
+    // Primary expressions.
+    /// A primary expression, or a `new` with what it constructs.
+    Primary(Context),
 
     /// What follows `?.`.
     OptionalTail(Context),
     Word,
-    New(Context),
-    Callee(Context),
     Members(Context),
     NewArgs(Context),
     Args(Context),
     Arguments(Context),
     MoreArguments(Context),
     Argument(Context),
-    Primary(Context),
     TemplateRest(Context),
     Elements(Context),
     MoreElements(Context),

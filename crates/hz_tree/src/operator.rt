@@ -84,3 +84,26 @@ pub enum AssignOperator {
     OrOr,
     Nullish,
 }
+
+/// How tightly an operator binds, or what else stands behind an operand; the loosest first.
+#[derive(Clone, Copy, Debug, PartialEq, Eq)]
+pub enum Level {
+    Assignment,
+    Conditional,
+    Nullish,
+    OrOr,
+    AndAnd,
+    Or,
+    Xor,
+    And,
+    Equality,
+    Relation,
+    Shift,
+    Sum,
+    Product,
+    Power,
+    Update,
+
+    /// A member, a call or a template.
+    Member,
+}

@@ -1,5 +1,5 @@
 ghost use Rattle.std.specs.Prelude.{◌≡◌, ◌≤◌, length};
-ghost use Rattle.hz_tree.specs.Shown.{name_of_kind};
+ghost use Rattle.hz_tree.specs.sources.Shown.{name_of_kind};
 
 use std::fmt;
 

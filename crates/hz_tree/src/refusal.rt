@@ -25,7 +25,7 @@ pub enum Refusal {
 
 impl fmt::Display for Refusal {
     ghost use Rattle.std.specs.Prelude.{Some};
-    ghost use Rattle.hz_tree.specs.Shown.{text_of_refusal};
+    ghost use Rattle.hz_tree.specs.sources.Shown.{text_of_refusal};
 
     ghost output = { λ refusal. Some (text_of_refusal refusal) };
 

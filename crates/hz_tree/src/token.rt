@@ -50,7 +50,7 @@ pub enum TokenKind {
 
 impl TokenKind {
     ghost use Rattle.std.specs.Prelude.{◌≡◌};
-    ghost use Rattle.hz_tree.specs.Tokens.{is_last};
+    ghost use Rattle.hz_tree.specs.tokens.Tokens.{is_last};
 
     /// Whether the list of tokens ends with such a token: `End` or `Bad`.
     pub fn is_last(self) -> bool

@@ -1,18 +1,17 @@
 use Rattle.std.proofs.Common.{rules}
-use Rattle.hz_cursor.specs.Terminal.{seen}
 use Rattle.hz_rows.proofs.statements.statement_by.Goals as goal
 
 pub returns-in-If : goal.returns-in-If
-returns-in-If c = let h = c.if_statement.ensures (seen c.args.look) in search rules
+returns-in-If c = let h = c.if_statement.ensures c.args.look in search rules
 
 pub returns-in-Do : goal.returns-in-Do
-returns-in-Do c = let h = c.do_statement.ensures (seen c.args.look) in search rules
+returns-in-Do c = let h = c.do_statement.ensures c.args.look in search rules
 
 pub returns-in-While : goal.returns-in-While
-returns-in-While c = let h = c.while_statement.ensures (seen c.args.look) in search rules
+returns-in-While c = let h = c.while_statement.ensures c.args.look in search rules
 
 pub returns-in-For : goal.returns-in-For
-returns-in-For c = let h = c.for_statement.ensures (seen c.args.look) in search rules
+returns-in-For c = let h = c.for_statement.ensures c.args.look in search rules
 
 pub returns-in-Switch : goal.returns-in-Switch
-returns-in-Switch c = let h = c.switch_statement.ensures (seen c.args.look) in search rules
+returns-in-Switch c = let h = c.switch_statement.ensures c.args.look in search rules

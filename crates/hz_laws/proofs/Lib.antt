@@ -1,0 +1,14 @@
+pub mod GrammarExamples
+pub mod FunctionExamples
+pub mod TreeLaws
+pub mod Ranks
+pub mod Depth
+pub mod Told
+pub mod Made
+pub mod RowLaws
+pub mod ReadingLaws
+pub mod StackLaws
+pub mod TurnLaws
+pub mod Tied
+pub mod Answers
+pub mod Starts

@@ -1,0 +1,297 @@
+-- Every row of the grammar lets ranks fall until a token is taken, opens a function at a token that it takes, and makes
+-- what tells what its parts tell.
+use Rattle.std.proofs.Common.{◌≡◌, Bool, true, false, not, ◌&&◌, if◌then◌else◌, List, Option, Some, None, refl, ◌∙◌}
+use Rattle.std.proofs.Common.{rules}
+use Rattle.hz_tree.specs.declared.class.Class.{Class}
+use Rattle.hz_tree.specs.declared.class.Class.TheVariants as k
+use Rattle.hz_tree.specs.declared.nonterminal.Context.{Context}
+use Rattle.hz_tree.specs.declared.nonterminal.Nonterminal.{Nonterminal}
+use Rattle.hz_tree.specs.declared.nonterminal.Nonterminal.TheVariants as n
+use Rattle.hz_tree.specs.declared.operator.AssignOperator.{AssignOperator}
+use Rattle.hz_tree.specs.declared.operator.BinaryOperator.{BinaryOperator}
+use Rattle.hz_tree.specs.declared.operator.Level.{Level}
+use Rattle.hz_tree.specs.declared.operator.UnaryOperator.{UnaryOperator}
+use Rattle.hz_tree.specs.declared.operator.UpdateOperator.{UpdateOperator}
+use Rattle.hz_tree.specs.declared.tree.Tree.TheVariants as t
+use Rattle.hz_tree.specs.grammar.Classes.{is_name, is_of, is_colon, begins_key, is_async_word, is_paren}
+use Rattle.hz_tree.specs.declared.look.Look.{Look}
+use Rattle.hz_tree.specs.grammar.Look.{Terminal, is_async, begins_arrow}
+use Rattle.hz_tree.specs.grammar.Operators.{assign_operator, binary_operator, unary_operator, update_operator}
+use Rattle.hz_tree.specs.grammar.Symbols.{Row}
+use Rattle.hz_tree.specs.grammar.HeadRows.{is_no_left, head_by}
+use Rattle.hz_tree.specs.grammar.OperatorRows.{reads_on, operator_row, rest_row, arrow_row, operand_row, operation_by}
+use Rattle.hz_tree.specs.grammar.OperatorRows.{is_loosest}
+use Rattle.hz_tree.specs.grammar.PrimaryRows.{new_row, function_expression_row, primary_by}
+use Rattle.hz_tree.specs.grammar.PropertyRows.{plain_prop_row, getter_row, setter_row, prop_by}
+use Rattle.hz_tree.specs.grammar.StatementRows.{return_row, statement_by}
+use Rattle.hz_tree.specs.grammar.Table.{row, step_of}
+use Rattle.hz_tree.specs.reading.Reading.{reads, tells}
+use Rattle.hz_laws.proofs.Ranks.{is_fine, is_open, and_left, and_right}
+use Rattle.hz_laws.proofs.Depth.{Fine}
+use Rattle.hz_laws.proofs.Told.{TellsRow, tell, tells_by}
+use Rattle.hz_laws.proofs.TreeLaws.{told_out, told_next}
+use Rattle.hz_laws.proofs.Made.{made_operated, told_one, told_two, row_laws, made_laws}
+
+abbrev pub Lawful : (m : Nonterminal) → Row m → Type 0
+Lawful m r = ((is_fine m (step_of r) && is_open m (step_of r)) ≡ true) × TellsRow m r
+
+lawful_if : (m : Nonterminal) (test : Bool) (a b : Row m) → Lawful m a → Lawful m b → Lawful m (if test then a else b)
+lawful_if m true a b h i = h
+lawful_if m false a b h i = i
+
+-- ---- rows that test more than one class
+
+return_lawful : (c : Context) (returns : Bool) → Lawful (n.Statement c) (return_row c returns)
+return_lawful c true = (refl, λ p. told_out _ ∙ simp made_laws)
+return_lawful c false = (refl, λ p. first_of (simp row_laws, search rules))
+
+statement_lawful : (c : Context) (l : Look) (one : Class) → Lawful (n.Statement c) (statement_by c l one)
+statement_lawful c l k.LeftBrace = (refl, λ p. first_of (simp row_laws, search rules))
+statement_lawful c l k.Return = return_lawful c c.returns
+statement_lawful c l k.Function = (refl, λ p. first_of (simp row_laws, search rules))
+statement_lawful c l _ = (refl, λ p. told_out _ ∙ simp made_laws)
+
+head_lawful : (c : Context) (l : Look) (one : Class) → Lawful (n.Head c) (head_by c l one)
+head_lawful c l k.Var = (refl, λ p. first_of (simp row_laws, search rules))
+head_lawful c l k.Let = (refl, λ p. first_of (simp row_laws, search rules))
+head_lawful c l k.Const = (refl, λ p. first_of (simp row_laws, search rules))
+head_lawful c l k.Semicolon = (refl, λ p. told_out _ ∙ simp made_laws)
+head_lawful c l _ =
+    lawful_if (n.Head c) (is_async_word l.one && is_of l.two) _ _ (refl, λ p. first_of (simp row_laws, search rules))
+    (lawful_if (n.Head c) (is_no_left c l) _ _ (refl, λ p. told_out _ ∙ simp made_laws)
+    (refl, λ p. first_of (simp row_laws, search rules)))
+
+operator_lawful : (loosest tightest : Level) (c : Context) (one : Class) (assigned : Option AssignOperator)
+    (updated : Option UpdateOperator) (joined : Option BinaryOperator)
+    → Lawful (n.Rests loosest tightest c) (operator_row loosest tightest c one assigned updated joined)
+operator_lawful loosest tightest c one (Some operator) updated joined =
+    (refl, λ p. first_of (simp row_laws, search rules))
+operator_lawful loosest tightest c one None (Some operator) joined = (refl, λ p. first_of (simp row_laws, search rules))
+operator_lawful loosest tightest c one None None (Some operator) = (refl, λ p. first_of (simp row_laws, search rules))
+operator_lawful loosest tightest c one None None None = (refl, λ p. first_of (simp row_laws, search rules))
+
+rest_lawful : (loosest tightest : Level) (c : Context) (one : Class)
+    → Lawful (n.Rests loosest tightest c) (rest_row loosest tightest c one)
+rest_lawful loosest tightest c k.Dot = (refl, λ p. told_next _ _ ∙ simp made_laws)
+rest_lawful loosest tightest c k.LeftBracket = (refl, λ p. told_next _ _ ∙ simp made_laws)
+rest_lawful loosest tightest c k.LeftParen = (refl, λ p. first_of (simp row_laws, search rules))
+rest_lawful loosest tightest c k.OptionalDot = (refl, λ p. told_next _ _ ∙ simp made_laws)
+rest_lawful loosest tightest c k.TemplateWhole = (refl, λ p. first_of (simp row_laws, search rules))
+rest_lawful loosest tightest c k.TemplateHead = (refl, λ p. first_of (simp row_laws, search rules))
+rest_lawful loosest tightest c k.Question = (refl, λ p. first_of (simp row_laws, search rules))
+rest_lawful loosest tightest c one =
+    operator_lawful loosest tightest c one (assign_operator one) (update_operator one) (binary_operator one)
+
+arrow_lawful : (loosest : Level) (c : Context) (parenthesised : Bool)
+    → Lawful (n.Operation loosest c) (arrow_row loosest c parenthesised)
+arrow_lawful loosest c true = (refl, λ p. first_of (simp row_laws, search rules))
+arrow_lawful loosest c false = (refl, λ p. first_of (simp row_laws, search rules))
+
+operand_lawful : (loosest : Level) (c : Context) (one : Class) (operator : Option UnaryOperator)
+    → Lawful (n.Operation loosest c) (operand_row loosest c one operator)
+operand_lawful loosest c one (Some operator) =
+    (refl, λ p. made_operated (t.Unary p.0.token.at operator p.1.0) p.1.1.0 ∙ told_next _ _ ∙ simp made_laws)
+operand_lawful loosest c one None = (refl, λ p. first_of (simp row_laws, search rules))
+
+operation_lawful : (loosest : Level) (c : Context) (yields : Bool) (one : Class)
+    → Lawful (n.Operation loosest c) (operation_by loosest c yields one)
+operation_lawful loosest c true k.Yield = (refl, λ p. told_out _ ∙ simp made_laws)
+operation_lawful loosest c yields one = operand_lawful loosest c one (unary_operator one)
+
+new_lawful : (c : Context) (two : Class) → Lawful (n.Primary c) (new_row c two)
+new_lawful c k.Dot = (refl, λ p. told_out _ ∙ simp made_laws)
+new_lawful c _ = (refl, λ p. told_out _ ∙ simp made_laws)
+
+function_lawful : (c : Context) (two : Class) → Lawful (n.Primary c) (function_expression_row c two)
+function_lawful c k.Star = (refl, λ p. first_of (simp row_laws, search rules))
+function_lawful c _ = (refl, λ p. first_of (simp row_laws, search rules))
+
+primary_lawful : (c : Context) (l : Look) (one : Class) → Lawful (n.Primary c) (primary_by c l one)
+primary_lawful c l k.This = (refl, λ p. told_out _ ∙ simp made_laws)
+primary_lawful c l k.Null = (refl, λ p. told_out _ ∙ simp made_laws)
+primary_lawful c l k.True = (refl, λ p. told_out _ ∙ simp made_laws)
+primary_lawful c l k.False = (refl, λ p. told_out _ ∙ simp made_laws)
+primary_lawful c l k.Number = (refl, λ p. told_out _ ∙ simp made_laws)
+primary_lawful c l k.OctalNumber = (refl, λ p. told_out _ ∙ simp made_laws)
+primary_lawful c l k.Text = (refl, λ p. told_out _ ∙ simp made_laws)
+primary_lawful c l k.LeftParen = (refl, λ p. told_out _ ∙ simp made_laws)
+primary_lawful c l k.TemplateWhole = (refl, λ p. told_out _ ∙ simp made_laws)
+primary_lawful c l k.TemplateHead = (refl, λ p. told_out _ ∙ simp made_laws)
+primary_lawful c l k.LeftBracket = (refl, λ p. told_out _ ∙ simp made_laws)
+primary_lawful c l k.LeftBrace = (refl, λ p. told_out _ ∙ simp made_laws)
+primary_lawful c l k.Slash = (refl, λ p. first_of (simp row_laws, search rules))
+primary_lawful c l k.SlashAssign = (refl, λ p. first_of (simp row_laws, search rules))
+primary_lawful c l k.New = new_lawful c l.two
+primary_lawful c l k.Function = function_lawful c l.two
+primary_lawful c l _ =
+    lawful_if (n.Primary c) (is_name l.one) _ _ (refl, λ p. told_out _ ∙ simp made_laws)
+    (refl, λ p. first_of (simp row_laws, search rules))
+
+plain_lawful : (c : Context) (l : Look) → Lawful (n.Prop c) (plain_prop_row c l)
+plain_lawful c l =
+    lawful_if (n.Prop c) (is_name l.one && (not (is_colon l.two) && not (is_paren l.two))) _ _
+    (refl, λ p. told_out _ ∙ simp made_laws) (refl, λ p. first_of (simp row_laws, search rules))
+
+getter_lawful : (c : Context) (l : Look) (keyed : Bool) → Lawful (n.Prop c) (getter_row c l keyed)
+getter_lawful c l true = (refl, λ p. told_out _ ∙ simp made_laws)
+getter_lawful c l false = plain_lawful c l
+
+setter_lawful : (c : Context) (l : Look) (keyed : Bool) → Lawful (n.Prop c) (setter_row c l keyed)
+setter_lawful c l true = (refl, λ p. told_out _ ∙ simp made_laws)
+setter_lawful c l false = plain_lawful c l
+
+prop_lawful : (c : Context) (l : Look) (one : Class) → Lawful (n.Prop c) (prop_by c l one)
+prop_lawful c l k.Ellipsis = (refl, λ p. told_out _ ∙ simp made_laws)
+prop_lawful c l k.Star = (refl, λ p. told_out _ ∙ simp made_laws)
+prop_lawful c l k.Get = getter_lawful c l (begins_key l.two)
+prop_lawful c l k.Set = setter_lawful c l (begins_key l.two)
+prop_lawful c l _ = plain_lawful c l
+
+-- ---- all rows
+
+abbrev looked : (one : Class) → (one_newline : Bool) → (two : Class) → (two_newline arrow : Bool) → Look
+looked one one_newline two two_newline arrow =
+    record { one = one; one_newline = one_newline; two = two; two_newline = two_newline; arrow = arrow }
+
+lawful_at : (m : Nonterminal) (one : Class) (newline : Bool) (two : Class) (newline' arrow : Bool)
+    → Lawful m (row m (looked one newline two newline' arrow))
+lawful_at n.Script _ _ _ _ _ = (refl, λ p. told_out _ ∙ simp made_laws)
+lawful_at (n.Items c) k.RightBrace _ _ _ _ = (refl, λ p. first_of (simp row_laws, search rules))
+lawful_at (n.Items c) _ _ _ _ _ = (refl, λ p. first_of (simp row_laws, search rules))
+lawful_at (n.Item c) k.Function _ k.Star _ _ = (refl, λ p. told_out _ ∙ simp made_laws)
+lawful_at (n.Item c) k.Function _ _ _ _ = (refl, λ p. told_out _ ∙ simp made_laws)
+lawful_at (n.Item c) k.Let _ _ _ _ = (refl, λ p. told_out _ ∙ simp made_laws)
+lawful_at (n.Item c) k.Const _ _ _ _ = (refl, λ p. told_out _ ∙ simp made_laws)
+lawful_at (n.Item c) _ _ _ _ _ = (refl, λ p. told_one _)
+lawful_at (n.Block c) _ _ _ _ _ = (refl, λ p. told_out _ ∙ simp made_laws)
+lawful_at (n.Binds c) _ _ _ _ _ = (refl, λ p. first_of (simp row_laws, search rules))
+lawful_at (n.Bind c) _ _ _ _ _ = (refl, λ p. told_out _ ∙ simp made_laws)
+lawful_at (n.MoreBinds c) k.Comma _ _ _ _ = (refl, λ p. first_of (simp row_laws, search rules))
+lawful_at (n.MoreBinds c) _ _ _ _ _ = (refl, λ p. refl)
+lawful_at (n.Initial c) k.Assign _ _ _ _ = (refl, λ p. first_of (simp row_laws, search rules))
+lawful_at (n.Initial c) _ _ _ _ _ = (refl, λ p. refl)
+lawful_at n.Bound k.LeftBracket _ _ _ _ = (refl, λ p. first_of (simp row_laws, search rules))
+lawful_at n.Bound _ _ _ _ _ = (refl, λ p. refl)
+lawful_at n.Semi k.Semicolon _ _ _ _ = (refl, λ p. first_of (simp row_laws, search rules))
+lawful_at n.Semi _ true _ _ _ = (refl, λ p. refl)
+lawful_at n.Semi _ false _ _ _ = (refl, λ p. refl)
+lawful_at n.LooseSemi k.Semicolon _ _ _ _ = (refl, λ p. first_of (simp row_laws, search rules))
+lawful_at n.LooseSemi _ _ _ _ _ = (refl, λ p. refl)
+lawful_at (n.Else c) k.Else _ _ _ _ = (refl, λ p. first_of (simp row_laws, search rules))
+lawful_at (n.Else c) _ _ _ _ _ = (refl, λ p. refl)
+lawful_at n.Label k.Name true _ _ _ = (refl, λ p. first_of (simp row_laws, search rules))
+lawful_at n.Label _ true _ _ _ = (refl, λ p. refl)
+lawful_at n.Label _ _ _ _ _ = (refl, λ p. refl)
+lawful_at (n.ReturnValue c) k.Semicolon true _ _ _ = (refl, λ p. first_of (simp row_laws, search rules))
+lawful_at (n.ReturnValue c) _ true _ _ _ = (refl, λ p. refl)
+lawful_at (n.ReturnValue c) _ _ _ _ _ = (refl, λ p. refl)
+lawful_at (n.ThrowValue c) _ true _ _ _ = (refl, λ p. first_of (simp row_laws, search rules))
+lawful_at (n.ThrowValue c) _ _ _ _ _ = (refl, λ p. told_one _)
+lawful_at (n.Clauses c has_default) k.Case _ _ _ _ = (refl, λ p. told_next _ _ ∙ simp made_laws)
+lawful_at (n.Clauses c false) k.Default _ _ _ _ = (refl, λ p. told_next _ _ ∙ simp made_laws)
+lawful_at (n.Clauses c true) k.Default _ _ _ _ = (refl, λ p. first_of (simp row_laws, search rules))
+lawful_at (n.Clauses c has_default) _ _ _ _ _ = (refl, λ p. refl)
+lawful_at (n.Handlers c) k.Catch _ _ _ _ = (refl, λ p. first_of (simp row_laws, search rules))
+lawful_at (n.Handlers c) _ _ _ _ _ = (refl, λ p. first_of (simp row_laws, search rules))
+lawful_at (n.CatchClause c) _ _ _ _ _ = (refl, λ p. told_out _ ∙ simp made_laws)
+lawful_at n.CatchName k.LeftParen _ _ _ _ = (refl, λ p. first_of (simp row_laws, search rules))
+lawful_at n.CatchName _ _ _ _ _ = (refl, λ p. refl)
+lawful_at (n.Finally c) k.Finally _ _ _ _ = (refl, λ p. first_of (simp row_laws, search rules))
+lawful_at (n.Finally c) _ _ _ _ _ = (refl, λ p. refl)
+lawful_at n.ForOpen k.Await _ _ _ _ = (refl, λ p. first_of (simp row_laws, search rules))
+lawful_at n.ForOpen _ _ _ _ _ = (refl, λ p. refl)
+lawful_at (n.DeclaredHead c) k.In _ _ _ _ = (refl, λ p. first_of (simp row_laws, search rules))
+lawful_at (n.DeclaredHead c) _ _ _ _ _ = (refl, λ p. first_of (simp row_laws, search rules))
+lawful_at (n.LeftHead c) k.In _ _ _ _ = (refl, λ p. first_of (simp row_laws, search rules))
+lawful_at (n.LeftHead c) _ _ _ _ _ = (refl, λ p. first_of (simp row_laws, search rules))
+lawful_at (n.OptionalExpr c) k.Semicolon _ _ _ _ = (refl, λ p. first_of (simp row_laws, search rules))
+lawful_at (n.OptionalExpr c) _ _ _ _ _ = (refl, λ p. refl)
+lawful_at (n.Expr c) _ _ _ _ _ = (refl, λ p. first_of (simp row_laws, search rules))
+lawful_at (n.ExprRest c) k.Comma _ _ _ _ = (refl, λ p. first_of (simp row_laws, search rules))
+lawful_at (n.ExprRest c) _ _ _ _ _ = (refl, λ p. refl)
+lawful_at n.ArrowSign _ true _ _ _ = (refl, λ p. first_of (simp row_laws, search rules))
+lawful_at n.ArrowSign _ _ _ _ _ = (refl, λ p. refl)
+lawful_at (n.ArrowBody c) k.LeftBrace _ _ _ _ = (refl, λ p. first_of (simp row_laws, search rules))
+lawful_at (n.ArrowBody c) _ _ _ _ _ = (refl, λ p. told_one _)
+lawful_at (n.YieldValue c) k.Star true _ _ _ = (refl, λ p. first_of (simp row_laws, search rules))
+lawful_at (n.YieldValue c) _ true _ _ _ = (refl, λ p. refl)
+lawful_at (n.YieldValue c) _ _ _ _ _ = (refl, λ p. refl)
+lawful_at (n.OptionalTail c) k.LeftBracket _ _ _ _ = (refl, λ p. told_out _ ∙ simp made_laws)
+lawful_at (n.OptionalTail c) k.LeftParen _ _ _ _ = (refl, λ p. first_of (simp row_laws, search rules))
+lawful_at (n.OptionalTail c) k.TemplateWhole _ _ _ _ = (refl, λ p. first_of (simp row_laws, search rules))
+lawful_at (n.OptionalTail c) k.TemplateHead _ _ _ _ = (refl, λ p. first_of (simp row_laws, search rules))
+lawful_at (n.OptionalTail c) _ _ _ _ _ = (refl, λ p. told_out _ ∙ simp made_laws)
+lawful_at n.Word k.Name _ _ _ _ = (refl, λ p. first_of (simp row_laws, search rules))
+lawful_at n.Word _ _ _ _ _ = (refl, λ p. refl)
+lawful_at (n.Members c) k.Dot _ _ _ _ = (refl, λ p. told_next _ _ ∙ simp made_laws)
+lawful_at (n.Members c) k.LeftBracket _ _ _ _ = (refl, λ p. told_next _ _ ∙ simp made_laws)
+lawful_at (n.Members c) _ _ _ _ _ = (refl, λ p. refl)
+lawful_at (n.NewArgs c) k.LeftParen _ _ _ _ = (refl, λ p. first_of (simp row_laws, search rules))
+lawful_at (n.NewArgs c) _ _ _ _ _ = (refl, λ p. refl)
+lawful_at (n.Args c) _ _ _ _ _ = (refl, λ p. told_out _ ∙ simp made_laws)
+lawful_at (n.Arguments c) k.RightParen _ _ _ _ = (refl, λ p. first_of (simp row_laws, search rules))
+lawful_at (n.Arguments c) _ _ _ _ _ = (refl, λ p. told_two _ _)
+lawful_at (n.MoreArguments c) k.Comma _ _ _ _ = (refl, λ p. first_of (simp row_laws, search rules))
+lawful_at (n.MoreArguments c) _ _ _ _ _ = (refl, λ p. refl)
+lawful_at (n.Argument c) k.Ellipsis _ _ _ _ = (refl, λ p. told_out _ ∙ simp made_laws)
+lawful_at (n.Argument c) _ _ _ _ _ = (refl, λ p. told_one _)
+lawful_at (n.TemplateRest c) k.TemplateMiddle _ _ _ _ = (refl, λ p. first_of (simp row_laws, search rules))
+lawful_at (n.TemplateRest c) _ _ _ _ _ = (refl, λ p. refl)
+lawful_at (n.Elements c) k.RightBracket _ _ _ _ = (refl, λ p. refl)
+lawful_at (n.Elements c) k.Comma _ _ _ _ = (refl, λ p. told_next _ _ ∙ simp made_laws)
+lawful_at (n.Elements c) _ _ _ _ _ = (refl, λ p. told_two _ _)
+lawful_at (n.MoreElements c) k.Comma _ _ _ _ = (refl, λ p. first_of (simp row_laws, search rules))
+lawful_at (n.MoreElements c) _ _ _ _ _ = (refl, λ p. refl)
+lawful_at (n.Props c) k.RightBrace _ _ _ _ = (refl, λ p. first_of (simp row_laws, search rules))
+lawful_at (n.Props c) _ _ _ _ _ = (refl, λ p. told_two _ _)
+lawful_at (n.MoreProps c) k.Comma _ _ _ _ = (refl, λ p. first_of (simp row_laws, search rules))
+lawful_at (n.MoreProps c) _ _ _ _ _ = (refl, λ p. refl)
+lawful_at n.ShorthandEnd k.Assign _ _ _ _ = (refl, λ p. first_of (simp row_laws, search rules))
+lawful_at n.ShorthandEnd _ _ _ _ _ = (refl, λ p. refl)
+lawful_at (n.KeyRest c) k.Colon _ _ _ _ = (refl, λ p. first_of (simp row_laws, search rules))
+lawful_at (n.KeyRest c) k.LeftParen _ _ _ _ = (refl, λ p. first_of (simp row_laws, search rules))
+lawful_at (n.KeyRest c) _ _ _ _ _ = (refl, λ p. refl)
+lawful_at (n.Key c) k.Text _ _ _ _ = (refl, λ p. told_out _ ∙ simp made_laws)
+lawful_at (n.Key c) _ _ _ _ _ = (refl, λ p. told_out _ ∙ simp made_laws)
+lawful_at n.OwnName k.Name _ _ _ _ = (refl, λ p. first_of (simp row_laws, search rules))
+lawful_at n.OwnName _ _ _ _ _ = (refl, λ p. refl)
+lawful_at n.Params _ _ _ _ _ = (refl, λ p. first_of (simp row_laws, search rules))
+lawful_at n.Parameters k.RightParen _ _ _ _ = (refl, λ p. first_of (simp row_laws, search rules))
+lawful_at n.Parameters _ _ _ _ _ = (refl, λ p. first_of (simp row_laws, search rules))
+lawful_at n.MoreParameters k.Comma _ _ _ _ = (refl, λ p. first_of (simp row_laws, search rules))
+lawful_at n.MoreParameters _ _ _ _ _ = (refl, λ p. refl)
+lawful_at n.ParameterEnd k.Assign _ _ _ _ = (refl, λ p. first_of (simp row_laws, search rules))
+lawful_at n.ParameterEnd _ _ _ _ _ = (refl, λ p. refl)
+lawful_at (n.Body generator) _ _ _ _ _ = (refl, λ p. told_out _ ∙ simp made_laws)
+lawful_at (n.Statement c) one newline two newline' arrow =
+    let l = looked one newline two newline' arrow in
+    lawful_if (n.Statement c) (is_async l) _ _ (refl, λ p. first_of (simp row_laws, search rules))
+    (lawful_if (n.Statement c) (is_name one && is_colon two) _ _ (refl, λ p. told_out _ ∙ simp made_laws)
+    (statement_lawful c l one))
+lawful_at (n.Head c) one newline two newline' arrow = head_lawful c (looked one newline two newline' arrow) one
+lawful_at (n.Operation loosest c) one newline two newline' arrow =
+    lawful_if (n.Operation loosest c) (is_loosest loosest && begins_arrow (looked one newline two newline' arrow)) _ _
+    (arrow_lawful loosest c (is_paren one)) (operation_lawful loosest c (is_loosest loosest && c.yields) one)
+lawful_at (n.Rests loosest tightest c) one newline two newline' arrow =
+    lawful_if (n.Rests loosest tightest c) (reads_on loosest tightest c newline one) _ _
+    (rest_lawful loosest tightest c one) (refl, λ p. first_of (simp row_laws, search rules))
+lawful_at (n.Primary c) one newline two newline' arrow =
+    let l = looked one newline two newline' arrow in
+    lawful_if (n.Primary c) (is_async l) _ _ (refl, λ p. first_of (simp row_laws, search rules))
+    (primary_lawful c l one)
+lawful_at (n.Prop c) one newline two newline' arrow =
+    let l = looked one newline two newline' arrow in
+    lawful_if (n.Prop c) (is_async l) _ _ (refl, λ p. first_of (simp row_laws, search rules)) (prop_lawful c l one)
+
+pub rows_lawful : (m : Nonterminal) (l : Look) → Lawful m (row m l)
+rows_lawful m l = lawful_at m l.one l.one_newline l.two l.two_newline l.arrow
+
+pub rows_fine : Fine row
+rows_fine m l = and_left (is_fine m (step_of (row m l))) (is_open m (step_of (row m l))) (rows_lawful m l).0
+
+pub rows_open : (m : Nonterminal) (l : Look) → is_open m (step_of (row m l)) ≡ true
+rows_open m l = and_right (is_fine m (step_of (row m l))) (is_open m (step_of (row m l))) (rows_lawful m l).0
+
+-- The events of a reading are those of its tree.
+pub tells_tree : (m : Nonterminal) (ts : List Terminal) → tells m ts ≡ tell m (reads m ts)
+tells_tree = tells_by (λ m l. (rows_lawful m l).1)

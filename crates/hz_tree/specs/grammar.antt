@@ -1,0 +1,13 @@
+-- The grammar as one table.
+pub mod Classes
+pub mod Look
+pub mod Operators
+pub mod Symbols
+pub mod FunctionRows
+pub mod StatementRows
+pub mod OperatorRows
+pub mod ExpressionRows
+pub mod HeadRows
+pub mod PrimaryRows
+pub mod PropertyRows
+pub mod Table

@@ -1,0 +1,3 @@
+-- What the grammar makes of tokens.
+pub mod Reading
+pub mod Stack

@@ -1,0 +1,3 @@
+-- What is said of a whole source.
+pub mod Refusals
+pub mod Shown

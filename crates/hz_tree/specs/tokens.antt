@@ -1,0 +1,9 @@
+-- The tokens of a source.
+pub mod Text
+pub mod Characters
+pub mod Spaces
+pub mod Names
+pub mod Numbers
+pub mod Literals
+pub mod Punctuators
+pub mod Tokens
