@@ -11,7 +11,8 @@ back [] flags pending = flags
 back (Opens ∷ more) flags pending = back more (first_or_false pending ∷ flags) (drop 1 pending)
 back (Closes arrow ∷ more) flags pending = back more flags (arrow ∷ pending)
 
-back_onto : (marks more : List Mark) → back (reverse marks ++ more) [] [] ≡ back more (answers marks).0 (answers marks).1
+back_onto : (marks more : List Mark) → back (reverse marks ++ more) [] []
+    ≡ back more (answers marks).0 (answers marks).1
 back_onto [] more = refl
 back_onto (Opens ∷ marks) more =
     let e : reverse (Opens ∷ marks) ++ more ≡ reverse marks ++ (Opens ∷ more)
@@ -23,4 +24,5 @@ back_onto (Closes arrow ∷ marks) more =
     rw e (back_onto marks (Closes arrow ∷ more))
 
 pub back_all : (marks : List Mark) → back (reverse marks) [] [] ≡ (answers marks).0
-back_all marks = ap (λ ms. back ms [] []) (let e : reverse marks ≡ reverse marks ++ [] = rw append-nil refl in e) ∙ back_onto marks []
+back_all marks = ap (λ ms. back ms [] []) (let e : reverse marks ≡ reverse marks ++ [] = rw append-nil refl in e)
+    ∙ back_onto marks []

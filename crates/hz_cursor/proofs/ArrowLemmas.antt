@@ -1,5 +1,6 @@
 -- The answers of all marks are those of the definition.
-use Rattle.std.proofs.Common.{◌≡◌, Bool, true, false, if◌then◌else◌, ◌&&◌, Some, None, rules, List, [], ◌∷◌, ◌++◌, refl, ap, sym, ◌∙◌}
+use Rattle.std.proofs.Common.{◌≡◌, Bool, true, false, if◌then◌else◌, ◌&&◌, Some, None, rules, List, [], ◌∷◌, ◌++◌}
+use Rattle.std.proofs.Common.{refl, ap, sym, ◌∙◌}
 use Rattle.std.proofs.lemmas.List.{append-nil}
 use denote.Enum.Bare.{same_true}
 use Rattle.hz_tree.specs.contracts.class.Bracket.{the_type as bracket_type}
@@ -9,11 +10,12 @@ use Rattle.hz_tree.specs.declared.class.Bracket.{Bracket}
 use Rattle.hz_tree.specs.declared.class.Bracket.TheVariants.{Round, Square, Curly, Hole}
 use Rattle.hz_tree.specs.declared.class.Bracketing.{Bracketing}
 use Rattle.hz_tree.specs.declared.class.Bracketing.TheVariants as does
-use Rattle.hz_tree.specs.Classes.{bracketing, still_open, same_bracket}
-use Rattle.hz_tree.specs.Look.{is_paren, is_arrow, arrow_behind}
+use Rattle.hz_tree.specs.grammar.Classes.{bracketing, still_open, same_bracket, is_paren, is_arrow}
+use Rattle.hz_tree.specs.grammar.Look.{arrow_behind}
 use Rattle.hz_cursor.specs.declared.mark.Mark.{Mark}
 use Rattle.hz_cursor.specs.Arrows.{arrows}
-use Rattle.hz_cursor.specs.Marks.{answers, answered, dropped, marks_at, open_behind, closes_round, is_round_bracket, marks_from}
+use Rattle.hz_cursor.specs.Marks.{answers, answered, dropped, marks_at, open_behind, closes_round, is_round_bracket}
+use Rattle.hz_cursor.specs.Marks.{marks_from}
 
 -- ---- a test for each `(` that is open
 
@@ -83,7 +85,8 @@ Right closed opened cs ms =
 abbrev RightBehind : Bracketing → (opened : List Bracket) (cs : List Class) (ms : List Mark) → Type 0
 RightBehind d opened cs ms = answers ms ≡ (arrows_by d cs, each (behind_by d cs) opened)
 
-with_second : (a b : List Bool) (flags : List Bool) → a ≡ b → (let p : List Bool × List Bool = (flags, a) in p) ≡ (flags, b)
+with_second : (a b : List Bool) (flags : List Bool) → a ≡ b → (let p : List Bool × List Bool = (flags, a) in p)
+    ≡ (flags, b)
 with_second a b flags e = ap (λ x. (flags, x)) e
 
 -- a token that leaves all open for good
@@ -99,19 +102,23 @@ same_is : (b e : Bracket) → same_bracket b e ≡ true → b ≡ e
 unfolding same_bracket
 same_is b e h = same_true bracket_type (search rules) b e h
 
-add_pending : (b : Bracket) (answer : Bool) (more : List Bool) → add b answer more ≡ pending (is_round_bracket b) answer ++ more
+add_pending : (b : Bracket) (answer : Bool) (more : List Bool) → add b answer more
+    ≡ pending (is_round_bracket b) answer ++ more
 add_pending Round answer more = refl
 add_pending Square answer more = refl
 add_pending Curly answer more = refl
 add_pending Hole answer more = refl
 
 closes_same : (b e : Bracket) (others : List Bracket) (cs : List Class) → same_bracket b e ≡ true
-    → pending (is_round_bracket b) (arrow_behind [] cs) ++ each (λ p. arrow_behind p cs) others ≡ each (behind_by (does.Closes b) cs) (e ∷ others)
+    → pending (is_round_bracket b) (arrow_behind [] cs) ++ each (λ p. arrow_behind p cs) others
+    ≡ each (behind_by (does.Closes b) cs) (e ∷ others)
 closes_same b e others cs same =
-    let test : (p : List Bracket) → behind_by (does.Closes b) cs (e ∷ p) ≡ arrow_behind p cs = λ p. rw (same, behind_by) refl in
+    let test : (p : List Bracket) → behind_by (does.Closes b) cs (e ∷ p) ≡ arrow_behind p cs =
+    λ p. rw (same, behind_by) refl in
     let rest : each (λ p. behind_by (does.Closes b) cs (e ∷ p)) others ≡ each (λ p. arrow_behind p cs) others
     = each_same (λ p. behind_by (does.Closes b) cs (e ∷ p)) (λ p. arrow_behind p cs) others (λ c p. test (c ∷ p)) in
-    rw (test [], rest, ← (same_is b e same)) (sym (add_pending b (arrow_behind [] cs) (each (λ p. arrow_behind p cs) others)))
+    rw (test [], rest, ← (same_is b e same)) (sym (add_pending b (arrow_behind [] cs)
+    (each (λ p. arrow_behind p cs) others)))
 
 closes : (b e : Bracket) (others : List Bracket) (cs : List Class) (ms : List Mark)
     → Right (closes_round (does.Closes b) (e ∷ others)) (open_behind (does.Closes b) (e ∷ others)) cs ms
@@ -132,7 +139,8 @@ reopens e others cs ms h =
     → Right false (if t then (e ∷ others) else []) cs ms
     → RightBehind does.Reopens (e ∷ others) cs ((if t then [] else dropped (e ∷ others)) ++ ms)) [
       | true ↦ λ same h. h ∙ with_second _ _ (arrows cs)
-          (sym (each_same_in (behind_by does.Reopens cs) (λ p. arrow_behind p cs) e others (λ p. rw (same, behind_by) refl)))
+          (sym (each_same_in (behind_by does.Reopens cs) (λ p. arrow_behind p cs) e others
+          (λ p. rw (same, behind_by) refl)))
       | false ↦ λ other h. lost does.Reopens e others cs ms (λ p. rw (other, behind_by) refl) h
     ] refl h
 
@@ -142,7 +150,8 @@ opens_other b opened cs = each_same (λ p. arrow_behind (b ∷ p) cs) (behind_by
 
 step : (d : Bracketing) (opened : List Bracket) (cs : List Class) (ms : List Mark)
     → Right (closes_round d opened) (open_behind d opened) cs ms → RightBehind d opened cs (marks_at d opened ++ ms)
-step (does.Opens Round) opened cs ms h = rw h (with_second _ _ (arrow_behind (Round ∷ []) cs ∷ arrows cs) (opens_other Round opened cs))
+step (does.Opens Round) opened cs ms h =
+    rw h (with_second _ _ (arrow_behind (Round ∷ []) cs ∷ arrows cs) (opens_other Round opened cs))
 step (does.Opens Square) opened cs ms h = h ∙ with_second _ _ (arrows cs) (opens_other Square opened cs)
 step (does.Opens Curly) opened cs ms h = h ∙ with_second _ _ (arrows cs) (opens_other Curly opened cs)
 step (does.Opens Hole) opened cs ms h = h ∙ with_second _ _ (arrows cs) (opens_other Hole opened cs)
@@ -165,7 +174,8 @@ right [] closed opened =
 right (c ∷ cs) closed opened =
     let d = bracketing c in
     let ms = marks_from (closes_round d opened) (open_behind d opened) cs in
-    let after : RightBehind d opened cs (marks_at d opened ++ ms) = step d opened cs ms (right cs (closes_round d opened) (open_behind d opened)) in
+    let after : RightBehind d opened cs (marks_at d opened ++ ms) =
+    step d opened cs ms (right cs (closes_round d opened) (open_behind d opened)) in
     let tests : each (behind_by d cs) opened ≡ each (λ p. arrow_behind p (c ∷ cs)) opened
     = each_same (behind_by d cs) (λ p. arrow_behind p (c ∷ cs)) opened (λ b p. refl) in
     answered_answers closed (is_arrow c) (marks_at d opened ++ ms) ∙ rw (after, paren_opens c, tests) refl

@@ -1,6 +1,4 @@
-pub mod SpellingLemmas
-pub mod NextLemmas
-pub mod TallyLemmas
+pub mod ReadLemmas
 pub mod AnswerLemmas
 pub mod ArrowLemmas
-pub mod TerminalLemmas
+pub mod CursorLemmas

@@ -2,7 +2,8 @@
 use Rattle.std.specs.Prelude.{Bool, if◌then◌else◌, List, [], ◌∷◌}
 use Rattle.hz_tree.specs.declared.class.Class.{Class}
 use Rattle.hz_tree.specs.declared.class.Bracket.TheVariants.{Round}
-use Rattle.hz_tree.specs.Look.{arrow_behind, is_paren}
+use Rattle.hz_tree.specs.grammar.Look.{arrow_behind}
+use Rattle.hz_tree.specs.grammar.Classes.{is_paren}
 
 -- for each `(` in order, whether `=>` stands behind the `)` that matches it
 abbrev pub arrows : List Class → List Bool

@@ -1,7 +1,5 @@
 pub mod Arrows
 pub mod Cursor
 pub mod Marks
-pub mod Spelling
+pub mod Stored
 pub mod Tally
-pub mod Terminal
-pub mod Terminals

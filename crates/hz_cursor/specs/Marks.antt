@@ -5,8 +5,7 @@ use Rattle.hz_tree.specs.declared.class.Bracket.{Bracket}
 use Rattle.hz_tree.specs.declared.class.Bracket.TheVariants.{Round, Hole}
 use Rattle.hz_tree.specs.declared.class.Bracketing.{Bracketing}
 use Rattle.hz_tree.specs.declared.class.Bracketing.TheVariants as does
-use Rattle.hz_tree.specs.Classes.{bracketing, same_bracket}
-use Rattle.hz_tree.specs.Look.{is_arrow}
+use Rattle.hz_tree.specs.grammar.Classes.{bracketing, same_bracket, is_arrow}
 use Rattle.hz_cursor.specs.declared.mark.Mark.{Mark}
 use Rattle.hz_cursor.specs.declared.mark.Mark.TheVariants.{Opens, Closes}
 

@@ -3,8 +3,7 @@ use Rattle.std.specs.Prelude.{Bool, List, ◌++◌}
 use Rattle.hz_tree.specs.declared.class.Class.{Class}
 use Rattle.hz_tree.specs.declared.class.Bracket.{Bracket}
 use Rattle.hz_tree.specs.declared.class.Bracketing.{Bracketing}
-use Rattle.hz_tree.specs.Classes.{bracketing}
-use Rattle.hz_tree.specs.Look.{is_arrow}
+use Rattle.hz_tree.specs.grammar.Classes.{bracketing, is_arrow}
 use Rattle.hz_cursor.specs.declared.mark.Mark.{Mark}
 use Rattle.hz_cursor.specs.Marks.{answered, marks_at, open_behind, closes_round}
 

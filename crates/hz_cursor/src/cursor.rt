@@ -1,112 +1,104 @@
-use crate::kinds::fits;
-use crate::terminal::{Look, Terminal};
-use crate::terminals::Terminals;
-use hz_tree::Class;
+ghost use Rattle.std.specs.Prelude.{◌≡◌, ◌≤◌, if◌then◌else◌, drop, length, reverse};
+ghost use Rattle.std.specs.List.{slice_get};
+ghost use Rattle.hz_tree.specs.grammar.Classes.{is_paren};
+ghost use Rattle.hz_cursor.specs.Stored as spec;
+
+use crate::arrows::flags_of;
+use crate::reading::read_tokens;
+use crate::store::{lengthen, lengthened};
+use crate::stored::Stored;
+use hz_tree::{Class, Look};
 use hz_value::Memory;
 use std::alloc::Global;
 use std::marker::Model;
 
 /// The terminals of a source that are left, of which the next two can be seen.
 ///
-/// It borrows the source, and takes memory for its parentheses and for the braces that are open. Each token is
-/// scanned twice in all.
+/// It takes four bytes for each token, one for each parenthesis, and eight for each token and each gap of more than
+/// 254 bytes. Each token is scanned once.
 #[derive(Drop)]
 pub struct Cursor<'a> {
-    one: Option<Terminal<'a>>,
+    source: &'a [u8],
 
-    two: Option<Terminal<'a>>,
+    /// All tokens, the last one included.
+    tokens: Vec<Stored>,
 
-    /// Those behind the two.
-    rest: Terminals<'a>,
+    /// How many of them were taken.
+    taken: usize,
+
+    /// The place at which the last one of these ends.
+    end: usize,
+
+    /// The long numbers of those that are left, the next one last.
+    long: Vec<usize>,
+
+    /// For each `(` that is left, whether it begins the parameters of an arrow. The next one comes last.
+    arrows: Vec<bool>,
+
+    look: Look,
 }
 
 impl<'a> Model for Cursor<'a> {
-    ghost use Rattle.std.specs.Prelude.{List};
-    ghost use Rattle.hz_tree.specs.Look as grammar;
-    ghost use Rattle.hz_cursor.specs.Cursor.{ahead};
+    ghost use Rattle.std.specs.Prelude.{List, reverse};
+    ghost use Rattle.hz_tree.specs.grammar.Look as grammar;
+    ghost use Rattle.hz_cursor.specs.Cursor.{left, IsCursor};
 
     ghost Value = { List grammar.Terminal };
 
-    ghost view = { λ c. ahead c.one c.two c.rest };
+    ghost view = { λ c. left c.source.now c.taken c.end };
+
+    ghost invariant = { λ c. IsCursor c.source.now c.taken c.end c.tokens.items (reverse c.long.items) (reverse c.arrows.items) c.look };
 }
 
 impl<'a> Cursor<'a> {
-    ghost use Rattle.std.specs.Prelude.{◌≡◌, ◌≤◌, IfOk, OnErr, length, take};
-    ghost use Rattle.hz_tree.specs.Look.{look, terminals};
-    ghost use Rattle.hz_tree.specs.Reading.{place_ahead, end_behind};
-    ghost use Rattle.hz_tree.specs.Refusals.{max_length};
-    ghost use Rattle.hz_cursor.specs.Cursor.{Takes, TakesClass};
-    ghost use Rattle.hz_cursor.specs.Terminal.{seen};
+    ghost use Rattle.std.specs.Prelude.{◌≡◌, ◌≤◌, IfOk, length, drop};
+    ghost use Rattle.hz_tree.specs.grammar.Look.{look, terminals};
+    ghost use Rattle.hz_tree.specs.reading.Reading.{place_ahead, end_behind};
+    ghost use Rattle.hz_tree.specs.sources.Refusals.{max_length};
+    ghost use Rattle.hz_cursor.specs.Cursor.{Eats};
 
     /// A cursor at the start of a source.
     pub fn new(alloc: Global, source: &'a [u8]) -> Result<Cursor<'a>, Memory>
         requires { length source.now ≤ max_length }
         ensures { IfOk result (λ cursor. cursor ≡ terminals source.now) }
     {
-        let mut rest = Terminals::new(alloc, source)?;
-        let one = rest.next()?;
-        let two = rest.next()?;
-        Ok(Cursor { one, two, rest })
+        let (store, marks) = read_tokens(alloc, source)?;
+        let arrows = flags_of(alloc, marks)?;
+        let (tokens, long) = store.into_parts();
+        let look = look_at(rest(&tokens, 0), &arrows);
+        Ok(Cursor {
+            source,
+            tokens,
+            taken: 0,
+            end: 0,
+            long,
+            arrows,
+            look,
+        })
     }
 
     /// The next two terminals, as the rules of the grammar test them.
     pub fn look(&self) -> Look
-        ensures { seen result ≡ look self.now }
+        ensures { result ≡ look self.now }
     {
-        match (&self.one, &self.two) {
-            (Some(one), Some(two)) => Look {
-                one: one.class,
-                one_newline: one.token.newline,
-                two: two.class,
-                two_newline: two.token.newline,
-                arrow: match one.class {
-                    Class::LeftParen => one.arrow,
-                    _ => two.arrow,
-                },
-            },
-            (Some(one), None) => Look {
-                one: one.class,
-                one_newline: one.token.newline,
-                two: Class::End,
-                two_newline: false,
-                arrow: one.arrow,
-            },
-            (None, _) => Look {
-                one: Class::End,
-                one_newline: false,
-                two: Class::End,
-                two_newline: false,
-                arrow: false,
-            },
-        }
+        self.look
     }
 
-    /// Takes the next terminal, the last one too. None where none is left. After Memory nothing but the next two
-    /// is left.
-    pub fn take(&mut self) -> Result<Option<Terminal<'a>>, Memory>
-        ensures ok { IfOk result (Takes self.old self.new) }
-        ensures err { OnErr result (self.new ≡ take 2 self.old) }
+    /// Takes the next terminal where the grammar takes it for a token of the class, and tells whether it did.
+    pub fn eat(&mut self, wanted: Class) -> bool
+        ensures { Eats wanted self.old self.new result }
     {
-        let taken = self.one;
-        if taken.is_some() {
-            let two = self.two;
-            if two.is_some() {
-                self.two = self.rest.next()?;
+        match next(&self.tokens, self.taken) {
+            Some(one) if wanted.fits(one.class) => {
+                let gap = lengthen(one.gap, &mut self.long);
+                let len = lengthen(one.len, &mut self.long);
+                drop_flag(&mut self.arrows, one.class);
+                self.end += gap + len;
+                self.taken += 1;
+                self.look = look_at(rest(&self.tokens, self.taken), &self.arrows);
+                true
             }
-            self.one = two;
-        }
-        Ok(taken)
-    }
-
-    /// Takes the next terminal where the grammar takes it for a token of the class, and else takes nothing and
-    /// gives None. After Memory nothing but the next two is left.
-    pub fn eat(&mut self, wanted: Class) -> Result<Option<Terminal<'a>>, Memory>
-        ensures ok { IfOk result (TakesClass wanted self.old self.new) }
-        ensures err { OnErr result (self.new ≡ take 2 self.old) }
-    {
-        match &self.one {
-            Some(one) if fits(wanted, one.class) => self.take(),
-            _ => Ok(None),
+            _ => false,
         }
     }
 
@@ -114,8 +106,8 @@ impl<'a> Cursor<'a> {
     pub fn place(&self) -> usize
         ensures { result ≡ place_ahead self.now }
     {
-        match &self.one {
-            Some(one) => one.token.at,
+        match next(&self.tokens, self.taken) {
+            Some(one) => self.end + lengthened(one.gap, &self.long),
             None => 0,
         }
     }
@@ -124,9 +116,64 @@ impl<'a> Cursor<'a> {
     pub fn behind(&self) -> usize
         ensures { result ≡ end_behind self.now }
     {
-        match &self.one {
-            Some(one) => one.behind,
+        match next(&self.tokens, self.taken) {
+            Some(_) => self.end,
             None => 0,
         }
+    }
+}
+
+/// The tokens behind so many.
+fn rest(tokens: &Vec<Stored>, taken: usize) -> &[Stored]
+    requires { taken ≤ length tokens.now.items }
+    ensures { result.now ≡ drop taken tokens.now.items }
+{
+    &tokens[taken..]
+}
+
+/// The token behind so many.
+fn next(tokens: &Vec<Stored>, taken: usize) -> Option<Stored>
+    ensures { result ≡ slice_get tokens.now.items taken }
+{
+    tokens.get(taken).copied()
+}
+
+/// Goes past the flag of a `(`.
+fn drop_flag(arrows: &mut Vec<bool>, class: Class)
+    ensures { reverse arrows.new.items
+        ≡ (if is_paren class then drop 1 (reverse arrows.old.items) else reverse arrows.old.items) }
+{
+    if class.is_paren() {
+        let _ = arrows.pop();
+    }
+}
+
+/// The first two of these tokens, where the flag of the next parenthesis comes last.
+fn look_at(tokens: &[Stored], arrows: &Vec<bool>) -> Look
+    ensures { result ≡ spec.look_at tokens.now (reverse arrows.now.items) }
+{
+    let arrow = arrows.last().copied().unwrap_or(false);
+    match tokens {
+        [] => Look {
+            one: Class::End,
+            one_newline: false,
+            two: Class::End,
+            two_newline: false,
+            arrow: false,
+        },
+        [one] => Look {
+            one: one.class,
+            one_newline: one.newline,
+            two: Class::End,
+            two_newline: false,
+            arrow: one.class.is_paren() && arrow,
+        },
+        [one, two, ..] => Look {
+            one: one.class,
+            one_newline: one.newline,
+            two: two.class,
+            two_newline: two.newline,
+            arrow: (one.class.is_paren() || two.class.is_paren()) && arrow,
+        },
     }
 }

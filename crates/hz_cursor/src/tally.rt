@@ -1,7 +1,7 @@
 ghost use Rattle.std.specs.Prelude.{◌≡◌, ◌++◌, [], OnOk, reverse};
+ghost use Rattle.hz_tree.specs.grammar.Classes as spec;
 ghost use Rattle.hz_cursor.specs.Marks.{dropped, innermost_is, is_round_bracket};
 
-use crate::class::bracketing;
 use crate::mark::Mark;
 use hz_tree::{Bracket, Bracketing, Class};
 use hz_value::Memory;
@@ -30,7 +30,8 @@ impl Model for Tally {
 }
 
 impl Tally {
-    ghost use Rattle.std.specs.Prelude.{◌≡◌, [], false, OnOk};
+    ghost use Rattle.std.specs.Prelude.{◌≡◌, ◌++◌, [], false, IfOk, OnOk};
+    ghost use Rattle.hz_cursor.specs.Marks.{marks_from};
     ghost use Rattle.hz_cursor.specs.Tally.{followed, closed_before, with_bracket};
 
     pub fn new(alloc: Global) -> Tally
@@ -43,15 +44,20 @@ impl Tally {
         }
     }
 
-    pub fn into_marks(self) -> Vec<Mark>
-        ensures { result.items ≡ self.marks }
+    /// The marks, where no token is left. Brackets that are open stay so for good.
+    pub fn into_marks(self) -> Result<Vec<Mark>, Memory>
+        ensures { IfOk result
+            (λ marks. marks.items ≡ self.marks ++ marks_from self.closed self.opened []) }
     {
+        let mut tally = self;
+        tally.answer(false)?;
         let Tally {
-            open: _,
-            marks,
+            mut open,
+            mut marks,
             closed: _,
-        } = self;
-        marks
+        } = tally;
+        drop_all(&mut open, &mut marks)?;
+        Ok(marks)
     }
 
     /// Goes past a token of the class.
@@ -109,7 +115,7 @@ fn is_round(bracket: Bracket) -> bool
     matches!(bracket, Bracket::Round)
 }
 
-#[tactic(auto, unfolding(hz_tree::specs::Classes::same_bracket))]
+#[tactic(auto, unfolding(hz_tree::specs::grammar::Classes::same_bracket))]
 fn is_innermost(opened: &Vec<Bracket>, bracket: Bracket) -> bool
     ensures { result ≡ innermost_is bracket (reverse opened.now.items) }
 {
@@ -131,4 +137,30 @@ fn drop_all(opened: &mut Vec<Bracket>, marks: &mut Vec<Mark>) -> Result<(), Memo
         }
     }
     Ok(())
+}
+
+/// What a token of the class does to the brackets that are open.
+fn bracketing(class: Class) -> Bracketing
+    ensures { result ≡ spec.bracketing class }
+{
+    match class {
+        Class::LeftParen => Bracketing::Opens(Bracket::Round),
+        Class::RightParen => Bracketing::Closes(Bracket::Round),
+        Class::LeftBracket => Bracketing::Opens(Bracket::Square),
+        Class::RightBracket => Bracketing::Closes(Bracket::Square),
+        Class::LeftBrace => Bracketing::Opens(Bracket::Curly),
+        Class::RightBrace => Bracketing::Closes(Bracket::Curly),
+        Class::TemplateHead => Bracketing::Opens(Bracket::Hole),
+        Class::TemplateMiddle => Bracketing::Reopens,
+        Class::TemplateTail => Bracketing::Closes(Bracket::Hole),
+        Class::End
+        | Class::Malformed
+        | Class::BigInt
+        | Class::NumberForm
+        | Class::PrivateName
+        | Class::IdentifierEscape
+        | Class::HtmlComment
+        | Class::Character => Bracketing::Ends,
+        _ => Bracketing::Keeps,
+    }
 }

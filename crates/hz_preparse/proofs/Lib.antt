@@ -5,5 +5,6 @@ pub mod TextExpression
 pub mod PrologueLaw
 pub mod Hearing
 pub mod DraftLemmas
-pub mod Turns
+pub mod Steps
 pub mod Whole
+pub mod FunctionStarts

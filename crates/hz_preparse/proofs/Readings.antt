@@ -2,34 +2,43 @@
 use Rattle.std.proofs.Common.{◌≡◌, List, [], ◌∷◌, refl, sym, ◌∙◌, subst}
 use Rattle.hz_tree.specs.declared.nonterminal.Nonterminal.{Nonterminal}
 use Rattle.hz_tree.specs.declared.symbol.Symbol.{Symbol}
-use Rattle.hz_tree.specs.Look.{Terminal, look}
-use Rattle.hz_tree.specs.Symbols.{Part, Parts, goes, refuses, Value, Row}
-use Rattle.hz_tree.specs.Grammar.{row}
-use Rattle.hz_tree.specs.Reading.{Reading, Got, Stuck, Deeper, and_then, read_one, read_all, by_row, reads}
-use Rattle.hz_tree.proofs.Law.{reads_law}
+use Rattle.hz_tree.specs.grammar.Look.{Terminal, look}
+use Rattle.hz_tree.specs.grammar.Symbols.{Part, Parts, goes, refuses, Value, Row}
+use Rattle.hz_tree.specs.grammar.Table.{row}
+use Rattle.hz_tree.specs.reading.Reading.{Reading, Got, Stuck, Deeper, and_then, read_one, read_all, by_row, reads}
+use Rattle.hz_laws.proofs.ReadingLaws.{reads_law}
 
 -- the symbols are read one behind the other, with these parts
 abbrev pub ReadsAll : (right : List Symbol) → List Terminal → Parts Value right → List Terminal → Type 0
 ReadsAll [] ts parts rest = rest ≡ ts
-ReadsAll (s ∷ more) ts parts rest = (mid : List Terminal) × ((read_one reads s ts ≡ Got parts.0 mid) × ReadsAll more mid parts.1 rest)
+ReadsAll (s ∷ more) ts parts rest = (mid : List Terminal) × ((read_one reads s ts ≡ Got parts.0 mid)
+    × ReadsAll more mid parts.1 rest)
 
-got_parts : (s : Symbol) (more : List Symbol) (ts mid : List Terminal) (v : Part Value s) (r : Reading (Parts Value more)) (parts : Parts Value (s ∷ more)) (rest : List Terminal)
+got_parts : (s : Symbol) (more : List Symbol) (ts mid : List Terminal) (v : Part Value s)
+    (r : Reading (Parts Value more)) (parts : Parts Value (s ∷ more)) (rest : List Terminal)
     → ((vs : Parts Value more) (end : List Terminal) → r ≡ Got vs end → ReadsAll more mid vs end)
-    → read_one reads s ts ≡ Got v mid → and_then r (λ vs end. Got (v, vs) end) ≡ Got parts rest → ReadsAll (s ∷ more) ts parts rest
+    → read_one reads s ts ≡ Got v mid → and_then r (λ vs end. Got (v, vs) end) ≡ Got parts rest
+    → ReadsAll (s ∷ more) ts parts rest
 got_parts s more ts mid v (Got vs end) parts rest all one is =
     let P : Parts Value (s ∷ more) → List Terminal → Type 0 = λ p r. ReadsAll (s ∷ more) ts p r in
     got_is P (v, vs) parts end rest is (mid, (one, all vs end refl))
   where
-    got_is : (P : Parts Value (s ∷ more) → List Terminal → Type 0) (a b : Parts Value (s ∷ more)) (us ws : List Terminal) → Got a us ≡ Got b ws → P a us → P b ws
-    got_is P a b us ws e h = let ea : a ≡ b = cc in let eu : us ≡ ws = cc in subst (λ y. P b y) eu (subst (λ y. P y us) ea h)
+    got_is : (P : Parts Value (s ∷ more) → List Terminal → Type 0) (a b : Parts Value (s ∷ more))
+        (us ws : List Terminal) → Got a us ≡ Got b ws → P a us → P b ws
+    got_is P a b us ws e h = let ea : a ≡ b = cc in let eu : us ≡ ws = cc in
+        subst (λ y. P b y) eu (subst (λ y. P y us) ea h)
 got_parts s more ts mid v (Stuck cause us) parts rest all one is = cc
 got_parts s more ts mid v Deeper parts rest all one is = cc
 
-got_first : (s : Symbol) (more : List Symbol) (ts : List Terminal) (r : Reading (Part Value s)) (parts : Parts Value (s ∷ more)) (rest : List Terminal)
-    → ((mid : List Terminal) (vs : Parts Value more) (end : List Terminal) → read_all reads more mid ≡ Got vs end → ReadsAll more mid vs end)
+got_first : (s : Symbol) (more : List Symbol) (ts : List Terminal) (r : Reading (Part Value s))
+    (parts : Parts Value (s ∷ more)) (rest : List Terminal)
+    → ((mid : List Terminal) (vs : Parts Value more) (end : List Terminal) → read_all reads more mid ≡ Got vs end
+    → ReadsAll more mid vs end)
     → read_one reads s ts ≡ r
-    → and_then r (λ v mid. and_then (read_all reads more mid) (λ vs end. Got (v, vs) end)) ≡ Got parts rest → ReadsAll (s ∷ more) ts parts rest
-got_first s more ts (Got v mid) parts rest all one is = got_parts s more ts mid v (read_all reads more mid) parts rest (all mid) one is
+    → and_then r (λ v mid. and_then (read_all reads more mid) (λ vs end. Got (v, vs) end)) ≡ Got parts rest
+    → ReadsAll (s ∷ more) ts parts rest
+got_first s more ts (Got v mid) parts rest all one is = got_parts s more ts mid v (read_all reads more mid) parts rest
+    (all mid) one is
 got_first s more ts (Stuck cause us) parts rest all one is = cc
 got_first s more ts Deeper parts rest all one is = cc
 
@@ -43,10 +52,12 @@ all_read (s ∷ more) ts parts rest is =
 
 -- each value that the row makes at these tokens has the property
 abbrev pub RowGives : (m : Nonterminal) → (Value m → List Terminal → Type 0) → List Terminal → Row m → Type 0
-RowGives m P ts (goes right make) = (parts : Parts Value right) (rest : List Terminal) → ReadsAll right ts parts rest → P (make parts) rest
+RowGives m P ts (goes right make) = (parts : Parts Value right) (rest : List Terminal) → ReadsAll right ts parts rest
+    → P (make parts) rest
 RowGives m P ts (refuses cause) = Unit {0}
 
-made : (m : Nonterminal) (P : Value m → List Terminal → Type 0) (ts : List Terminal) (right : List Symbol) (make : Parts Value right → Value m)
+made : (m : Nonterminal) (P : Value m → List Terminal → Type 0) (ts : List Terminal) (right : List Symbol)
+    (make : Parts Value right → Value m)
     (r : Reading (Parts Value right)) (v : Value m) (rest : List Terminal)
     → ((parts : Parts Value right) (end : List Terminal) → ReadsAll right ts parts end → P (make parts) end)
     → ((parts : Parts Value right) (end : List Terminal) → r ≡ Got parts end → ReadsAll right ts parts end)
@@ -57,12 +68,14 @@ made m P ts right make (Got parts end) v rest gives all is =
 made m P ts right make (Stuck cause us) v rest gives all is = cc
 made m P ts right make Deeper v rest gives all is = cc
 
-pub row_gives : (m : Nonterminal) (P : Value m → List Terminal → Type 0) (ts : List Terminal) (r : Row m) (v : Value m) (rest : List Terminal)
+pub row_gives : (m : Nonterminal) (P : Value m → List Terminal
+    → Type 0) (ts : List Terminal) (r : Row m) (v : Value m) (rest : List Terminal)
     → RowGives m P ts r → by_row reads m r ts ≡ Got v rest → P v rest
 row_gives m P ts (goes right make) v rest gives is =
     made m P ts right make (read_all reads right ts) v rest gives (all_read right ts) is
 row_gives m P ts (refuses cause) v rest gives is = cc
 
-pub gives : (m : Nonterminal) (P : Value m → List Terminal → Type 0) (ts : List Terminal) (v : Value m) (rest : List Terminal)
+pub gives : (m : Nonterminal) (P : Value m → List Terminal → Type 0) (ts : List Terminal) (v : Value m)
+    (rest : List Terminal)
     → RowGives m P ts (row m (look ts)) → reads m ts ≡ Got v rest → P v rest
 gives m P ts v rest h is = row_gives m P ts (row m (look ts)) v rest h (sym (reads_law m ts) ∙ is)

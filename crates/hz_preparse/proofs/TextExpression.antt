@@ -1,30 +1,37 @@
 -- An expression that begins with a text: it is the text alone exactly where the token behind it does not go on with it.
-use Rattle.std.proofs.Common.{◌≡◌, Bool, true, false, not, ◌&&◌, ◌||◌, if◌then◌else◌, List, [], ◌∷◌, Some, None, refl, ap, sym, ◌∙◌, subst}
+use Rattle.std.proofs.Common.{◌≡◌, Bool, true, false, ◌&&◌, ◌||◌, if◌then◌else◌, List, [], ◌∷◌, Some, None}
+use Rattle.std.proofs.Common.{is_some, refl, ap, sym, ◌∙◌, subst}
 use Rattle.hz_tree.specs.declared.class.Class.TheVariants as k
 use Rattle.hz_tree.specs.declared.nonterminal.Nonterminal.{Nonterminal}
 use Rattle.hz_tree.specs.declared.nonterminal.Nonterminal.TheVariants as n
 use Rattle.hz_tree.specs.declared.tree.Tree.{Tree}
 use Rattle.hz_tree.specs.declared.tree.Tree.TheVariants as t
+use Rattle.hz_tree.specs.declared.operator.Level.TheVariants as level
 use Rattle.hz_tree.specs.declared.symbol.Symbol.TheVariants.{Read}
 use Rattle.hz_tree.specs.declared.outside.BadKind.TheVariants as bad
 use Rattle.hz_tree.specs.declared.outside.OutsideKind.TheVariants as outside
-use Rattle.hz_tree.specs.Classes.{same_class, fits, is_name}
-use Rattle.hz_tree.specs.Look.{Terminal, Look, look, stuck, is_async, is_arrow, is_paren}
-use Rattle.hz_tree.specs.Symbols.{goes, refuses, Value, Parts, of_script}
-use Rattle.hz_tree.specs.Grammar.{row}
-use Rattle.hz_tree.specs.Reading.{Got, Stuck, takes, reads}
-use Rattle.hz_tree.specs.GrammarExpressions.{listed, operation_row, arrow_row, assign_by}
-use Rattle.hz_tree.specs.GrammarOperators.{joined, raised, updated, conditional, assigned, unary_row, power_row}
-use Rattle.hz_tree.specs.GrammarPrimaries.{tailed, has_octal, left_row, primary_by}
-use Rattle.hz_preparse.specs.Prologue.{begins_tail, is_update, is_power, is_binary, is_logical, is_question, is_assignment, is_comma, goes_on}
+use Rattle.hz_tree.specs.declared.look.Look.{Look}
+use Rattle.hz_tree.specs.grammar.Classes.{same_class, fits, is_name, is_arrow, is_paren}
+use Rattle.hz_tree.specs.grammar.Look.{Terminal, look, stuck, is_async}
+use Rattle.hz_tree.specs.grammar.Symbols.{assignment, goes, refuses, Value, Parts, of_script}
+use Rattle.hz_tree.specs.grammar.Table.{row}
+use Rattle.hz_tree.specs.reading.Reading.{Got, Stuck, takes, reads}
+use Rattle.hz_tree.specs.grammar.ExpressionRows.{listed}
+use Rattle.hz_tree.specs.grammar.Operators.{level_behind}
+use Rattle.hz_tree.specs.grammar.OperatorRows.{operated, arrow_row, operation_by}
+use Rattle.hz_tree.specs.grammar.PrimaryRows.{has_octal, primary_by}
+use Rattle.hz_preparse.specs.Prologue.{is_comma, goes_on}
 use Rattle.hz_preparse.proofs.Readings.{ReadsAll, RowGives, gives}
-use Rattle.hz_preparse.proofs.TextRows.{text_of, false_true, none_tailed, none_updated, none_raised, none_joined, none_conditional, none_assigned, none_listed, filled_joined, is_filled, tails_takes, tails_empty, power_takes, power_empty, operators_takes, operators_empty, cond_takes, cond_empty, assign_takes, assign_empty, comma_takes, comma_empty, postfix_takes, postfix_empty, logical_takes, logical_empty}
+use Rattle.hz_preparse.proofs.TextRows.{text_of, false_true, none_operated, filled_operated, is_filled, none_listed}
+use Rattle.hz_preparse.proofs.TextRows.{script_rests, rests_take, rests_empty, comma_takes, comma_empty}
 
 pub text_tree : Terminal → Tree
 text_tree x = t.Text x.token.at x.token.text (has_octal x.token.kind)
 
 pub text_of_text : (x : Terminal) → text_of (text_tree x) ≡ Some x.token.text
-unfolding Rattle.hz_tree.specs.declared.tree.Tree.TheViews.out-Tree denote.Hole.Carrier.out denote.Hole.Carrier.shown denote.Hole.Carrier.hidden Rattle.hz_tree.specs.declared.tree.Tree.TheBlock.shown-the_row-Tree-0 Rattle.hz_tree.specs.declared.tree.Tree.TheBlock.shown-the_row-Tree-1 text_tree
+unfolding Rattle.hz_tree.specs.declared.tree.Tree.TheViews.out-Tree denote.Hole.Carrier.out denote.Hole.Carrier.shown
+    denote.Hole.Carrier.hidden Rattle.hz_tree.specs.declared.tree.Tree.TheBlock.shown-the_row-Tree-0
+    Rattle.hz_tree.specs.declared.tree.Tree.TheBlock.shown-the_row-Tree-1 text_tree
 text_of_text x = refl
 
 -- Of the expression `v` behind the text `head`: the tokens `us` stood behind the text, `rest` are left, and `went_on`
@@ -34,7 +41,8 @@ pub record Stage (head v : Tree) (us rest : List Terminal) (went_on : Bool) : Ty
   pub longer : went_on ≡ true → text_of v ≡ None
 
 -- one more rest `w`, which is not empty where `takes` holds
-stage : {W : Type 0} (head v : Tree) (us mid rest : List Terminal) (before takes : Bool) (w empty : W) (wrap : Tree → W → Tree)
+stage : {W : Type 0} (head v : Tree) (us mid rest : List Terminal) (before takes : Bool) (w empty : W) (wrap : Tree → W
+    → Tree)
     → Stage head v us mid before
     → (takes ≡ false → mid ≡ us → (w ≡ empty) × (rest ≡ us))
     → (takes ≡ true → mid ≡ us → text_of (wrap head w) ≡ None)
@@ -52,7 +60,11 @@ stage head v us mid rest false true w empty wrap s none some same keeps =
 stage head v us mid rest false false w empty wrap s none some same keeps =
     let alone = s.alone refl in
     let left = none refl alone.1 in
-    record { alone = λ h. (ap (λ x. wrap x w) alone.0 ∙ ap (wrap head) left.0 ∙ same, left.1); longer = λ h. absurd (false_true h) }
+    record {
+      alone = λ h. (ap (λ x. wrap x w) alone.0 ∙ ap (wrap head) left.0 ∙ same, left.1);
+      longer =
+          λ h. absurd (false_true h);
+    }
 
 -- a nonterminal whose row is empty
 nothing_read : (m : Nonterminal) (empty : Value m) (ts : List Terminal) (w : Value m) (rest : List Terminal)
@@ -67,7 +79,8 @@ empty_at : (m : Nonterminal) (empty : Value m) (us mid : List Terminal) (w : Val
 empty_at m empty us mid w rest is same read =
     nothing_read m empty us w rest is (ap (reads m) (sym same) ∙ read)
 
-gives_at : (m : Nonterminal) (P : Value m → List Terminal → Type 0) (us mid : List Terminal) (w : Value m) (rest : List Terminal)
+gives_at : (m : Nonterminal) (P : Value m → List Terminal → Type 0) (us mid : List Terminal) (w : Value m)
+    (rest : List Terminal)
     → RowGives m P us (row m (look us)) → mid ≡ us → reads m mid ≡ Got w rest → P w rest
 gives_at m P us mid w rest h same read = gives m P us w rest h (ap (reads m) (sym same) ∙ read)
 
@@ -77,10 +90,12 @@ pub look_one : (x : Terminal) (us : List Terminal) → (look (x ∷ us)).one ≡
 look_one x [] = refl
 look_one x (y ∷ us) = refl
 
-took_text : (x : Terminal) (us : List Terminal) (v : Terminal) (mid : List Terminal) → takes k.Text (x ∷ us) ≡ Got v mid → x.class ≡ k.Text → (v ≡ x) × (mid ≡ us)
+took_text : (x : Terminal) (us : List Terminal) (v : Terminal) (mid : List Terminal) → takes k.Text (x ∷ us)
+    ≡ Got v mid → x.class ≡ k.Text → (v ≡ x) × (mid ≡ us)
 unfolding same_class
 took_text x us v mid is h =
-    let is_x : Got x us ≡ Got v mid = sym (ap (λ c. if fits k.Text c then Got x us else Stuck (stuck (look (x ∷ us))) (x ∷ us)) h) ∙ is in
+    let is_x : Got x us ≡ Got v mid =
+    sym (ap (λ c. if fits k.Text c then Got x us else Stuck (stuck (look (x ∷ us))) (x ∷ us)) h) ∙ is in
     (let e : v ≡ x = cc in e, let e : mid ≡ us = cc in e)
 
 -- the last of the parts
@@ -92,9 +107,11 @@ primary_text : (x : Terminal) (us : List Terminal) (v : Tree) (rest : List Termi
     → reads (n.Primary of_script) (x ∷ us) ≡ Got v rest → (v ≡ text_tree x) × (rest ≡ us)
 unfolding text_tree
 primary_text x us v rest h is =
-    gives (n.Primary of_script) (λ v rest. (v ≡ text_tree x) × (rest ≡ us)) (x ∷ us) v rest (either (is_async (look (x ∷ us)))) is
+    gives (n.Primary of_script) (λ v rest. (v ≡ text_tree x) × (rest ≡ us)) (x ∷ us) v rest
+    (either (is_async (look (x ∷ us)))) is
   where
-    by_text : RowGives (n.Primary of_script) (λ v rest. (v ≡ text_tree x) × (rest ≡ us)) (x ∷ us) (primary_by of_script (look (x ∷ us)) k.Text)
+    by_text : RowGives (n.Primary of_script) (λ v rest. (v ≡ text_tree x)
+        × (rest ≡ us)) (x ∷ us) (primary_by of_script (look (x ∷ us)) k.Text)
     by_text parts rest all =
         let took = took_text x us parts.0 all.0 all.1.0 h in
         (ap text_tree took.0, all.1.1 ∙ took.1)
@@ -104,109 +121,48 @@ primary_text x us v rest h is =
         (if b then refuses (bad.Outside outside.Async) else primary_by of_script (look (x ∷ us)) (look (x ∷ us)).one)
     either true = tt
     either false =
-        subst (λ c. RowGives (n.Primary of_script) (λ v rest. (v ≡ text_tree x) × (rest ≡ us)) (x ∷ us) (primary_by of_script (look (x ∷ us)) c))
+        subst (λ c. RowGives (n.Primary of_script) (λ v rest. (v ≡ text_tree x)
+        × (rest ≡ us)) (x ∷ us) (primary_by of_script (look (x ∷ us)) c))
         (sym (look_one x us ∙ h)) by_text
 
--- ---- its expression, from the tightest operator to the loosest
+-- ---- its expression
 
-left_text : (x : Terminal) (us : List Terminal) (v : Tree) (rest : List Terminal) → x.class ≡ k.Text
-    → reads (n.Left of_script) (x ∷ us) ≡ Got v rest → Stage (text_tree x) v us rest (begins_tail (look us).one)
-left_text x us v rest h is =
-    gives (n.Left of_script) (λ v rest. Stage (text_tree x) v us rest (begins_tail (look us).one)) (x ∷ us) v rest
-    (subst (λ c. RowGives (n.Left of_script) (λ v rest. Stage (text_tree x) v us rest (begins_tail (look us).one)) (x ∷ us) (left_row of_script c))
-    (sym (look_one x us ∙ h)) by_text) is
-  where
-    by_text : RowGives (n.Left of_script) (λ v rest. Stage (text_tree x) v us rest (begins_tail (look us).one)) (x ∷ us) (left_row of_script k.Text)
-    by_text parts rest all =
-        let first = primary_text x us parts.0 all.0 h all.1.0 in
-        let read = last_read (n.Tails of_script) all.0 parts.1 rest all.1.1 in
-        stage (text_tree x) parts.0 us all.0 rest false (begins_tail (look us).one) parts.1.0 [] tailed
-        (record { alone = λ e. first; longer = λ e. absurd (false_true e) })
-        (λ e same. empty_at (n.Tails of_script) [] us all.0 parts.1.0 rest (tails_empty (look us).one e) same read)
-        (λ e same. gives_at (n.Tails of_script) (λ w rest. text_of (tailed (text_tree x) w) ≡ None) us all.0 parts.1.0 rest (tails_takes (text_tree x) us (look us).one e) same read)
-        refl (none_tailed parts.0 parts.1.0)
+abbrev operates : Look → Bool
+operates l = is_some (level_behind l.one_newline l.one)
 
-unary_text : (x : Terminal) (us : List Terminal) (v : Tree) (rest : List Terminal) → x.class ≡ k.Text
-    → reads (n.Unary of_script) (x ∷ us) ≡ Got v rest
-    → Stage (text_tree x) v us rest (begins_tail (look us).one || (not (look us).one_newline && is_update (look us).one))
-unary_text x us v rest h is =
-    gives (n.Unary of_script) (λ v rest. Stage (text_tree x) v us rest (begins_tail (look us).one || (not (look us).one_newline && is_update (look us).one))) (x ∷ us) v rest
-    (subst (λ c. RowGives (n.Unary of_script) (λ v rest. Stage (text_tree x) v us rest (begins_tail (look us).one || (not (look us).one_newline && is_update (look us).one))) (x ∷ us) (unary_row of_script c))
-    (sym (look_one x us ∙ h)) by_text) is
-  where
-    by_text : RowGives (n.Unary of_script) (λ v rest. Stage (text_tree x) v us rest (begins_tail (look us).one || (not (look us).one_newline && is_update (look us).one))) (x ∷ us) (unary_row of_script k.Text)
-    by_text parts rest all =
-        let read = last_read n.PostfixRest all.0 parts.1 rest all.1.1 in
-        stage (text_tree x) parts.0 us all.0 rest (begins_tail (look us).one) (not (look us).one_newline && is_update (look us).one) parts.1.0 None updated
-        (left_text x us parts.0 all.0 h all.1.0)
-        (λ e same. empty_at n.PostfixRest None us all.0 parts.1.0 rest (postfix_empty (look us).one_newline (look us).one e) same read)
-        (λ e same. gives_at n.PostfixRest (λ w rest. text_of (updated (text_tree x) w) ≡ None) us all.0 parts.1.0 rest (postfix_takes (text_tree x) us (look us).one_newline (look us).one e) same read)
-        refl (none_updated parts.0 parts.1.0)
-
-abbrev tight : Look → Bool
-tight l = (begins_tail l.one || (not l.one_newline && is_update l.one)) || is_power l.one
-
-power_text : (x : Terminal) (us : List Terminal) (v : Tree) (rest : List Terminal) → x.class ≡ k.Text
-    → reads (n.Power of_script) (x ∷ us) ≡ Got v rest → Stage (text_tree x) v us rest (tight (look us))
-power_text x us v rest h is =
-    gives (n.Power of_script) (λ v rest. Stage (text_tree x) v us rest (tight (look us))) (x ∷ us) v rest
-    (subst (λ c. RowGives (n.Power of_script) (λ v rest. Stage (text_tree x) v us rest (tight (look us))) (x ∷ us) (power_row of_script c))
-    (sym (look_one x us ∙ h)) by_text) is
-  where
-    by_text : RowGives (n.Power of_script) (λ v rest. Stage (text_tree x) v us rest (tight (look us))) (x ∷ us) (power_row of_script k.Text)
-    by_text parts rest all =
-        let read = last_read (n.PowerRest of_script) all.0 parts.1 rest all.1.1 in
-        stage (text_tree x) parts.0 us all.0 rest (begins_tail (look us).one || (not (look us).one_newline && is_update (look us).one)) (is_power (look us).one) parts.1.0 None raised
-        (unary_text x us parts.0 all.0 h all.1.0)
-        (λ e same. empty_at (n.PowerRest of_script) None us all.0 parts.1.0 rest (power_empty (look us).one e) same read)
-        (λ e same. gives_at (n.PowerRest of_script) (λ w rest. text_of (raised (text_tree x) w) ≡ None) us all.0 parts.1.0 rest (power_takes (text_tree x) us (look us).one e) same read)
-        refl (none_raised parts.0 parts.1.0)
-
-abbrev loose : Look → Bool
-loose l = (((tight l || is_binary l.one) || is_logical l.one) || is_question l.one) || is_assignment l.one
-
-operation_text : (x : Terminal) (us : List Terminal) → x.class ≡ k.Text
-    → RowGives (n.Assign of_script) (λ v rest. Stage (text_tree x) v us rest (loose (look us))) (x ∷ us) (operation_row of_script)
-operation_text x us h parts rest all =
-    let l = look us in
-    let operand = parts.0 in let operators = parts.1.0 in let logical = parts.1.1.0 in let cond = parts.1.1.1.0 in let assign = parts.1.1.1.1.0 in
-    let one : Stage (text_tree x) (joined operand operators) us all.1.1.0 (tight l || is_binary l.one) =
-    stage (text_tree x) operand us all.0 all.1.1.0 (tight l) (is_binary l.one) operators [] joined (power_text x us operand all.0 h all.1.0)
-    (λ e same. empty_at (n.Operators 3 of_script) [] us all.0 operators all.1.1.0 (operators_empty l.one e) same all.1.1.1.0)
-    (λ e same. filled_joined (text_tree x) operators (gives_at (n.Operators 3 of_script) (λ w rest. is_filled w ≡ true) us all.0 operators all.1.1.0 (operators_takes us l.one e) same all.1.1.1.0))
-    refl (none_joined operand operators) in
-    let two : Stage (text_tree x) (joined (joined operand operators) logical) us all.1.1.1.1.0 ((tight l || is_binary l.one) || is_logical l.one) =
-    stage (text_tree x) (joined operand operators) us all.1.1.0 all.1.1.1.1.0 (tight l || is_binary l.one) (is_logical l.one) logical [] joined one
-    (λ e same. empty_at (n.Logical of_script) [] us all.1.1.0 logical all.1.1.1.1.0 (logical_empty l.one e) same all.1.1.1.1.1.0)
-    (λ e same. filled_joined (text_tree x) logical (gives_at (n.Logical of_script) (λ w rest. is_filled w ≡ true) us all.1.1.0 logical all.1.1.1.1.0 (logical_takes us l.one refl e) same all.1.1.1.1.1.0))
-    refl (none_joined (joined operand operators) logical) in
-    let three : Stage (text_tree x) (conditional (joined (joined operand operators) logical) cond) us all.1.1.1.1.1.1.0 (((tight l || is_binary l.one) || is_logical l.one) || is_question l.one) =
-    stage (text_tree x) (joined (joined operand operators) logical) us all.1.1.1.1.0 all.1.1.1.1.1.1.0 ((tight l || is_binary l.one) || is_logical l.one) (is_question l.one) cond None conditional two
-    (λ e same. empty_at (n.CondRest of_script) None us all.1.1.1.1.0 cond all.1.1.1.1.1.1.0 (cond_empty l.one e) same all.1.1.1.1.1.1.1.0)
-    (λ e same. gives_at (n.CondRest of_script) (λ w rest. text_of (conditional (text_tree x) w) ≡ None) us all.1.1.1.1.0 cond all.1.1.1.1.1.1.0 (cond_takes (text_tree x) us l.one e) same all.1.1.1.1.1.1.1.0)
-    refl (none_conditional (joined (joined operand operators) logical) cond) in
-    let read = last_read (n.AssignRest of_script) all.1.1.1.1.1.1.0 parts.1.1.1.1 rest all.1.1.1.1.1.1.1.1 in
-    stage (text_tree x) (conditional (joined (joined operand operators) logical) cond) us all.1.1.1.1.1.1.0 rest (((tight l || is_binary l.one) || is_logical l.one) || is_question l.one) (is_assignment l.one) assign None assigned three
-    (λ e same. empty_at (n.AssignRest of_script) None us all.1.1.1.1.1.1.0 assign rest (assign_empty l.one e) same read)
-    (λ e same. gives_at (n.AssignRest of_script) (λ w rest. text_of (assigned (text_tree x) w) ≡ None) us all.1.1.1.1.1.1.0 assign rest (assign_takes (text_tree x) us l.one e) same read)
-    refl (none_assigned (conditional (joined (joined operand operators) logical) cond) assign)
+operand_text : (x : Terminal) (us : List Terminal) → x.class ≡ k.Text
+    → RowGives (assignment of_script) (λ v rest. Stage (text_tree x) v us rest (operates (look us))) (x ∷ us)
+    (operation_by level.Assignment of_script false k.Text)
+operand_text x us h parts rest all =
+    let first = primary_text x us parts.0 all.0 h all.1.0 in
+    let read = last_read script_rests all.0 parts.1 rest all.1.1 in
+    stage (text_tree x) parts.0 us all.0 rest false (operates (look us)) parts.1.0 [] operated
+    (record { alone = λ e. first; longer = λ e. absurd (false_true e) })
+    (λ e same. empty_at script_rests [] us all.0 parts.1.0 rest (rests_empty (look us) e) same read)
+    (λ e same. filled_operated (text_tree x) parts.1.0
+    (gives_at script_rests (λ w rest. is_filled w ≡ true) us all.0 parts.1.0 rest (rests_take us (look us) e) same
+    read))
+    refl (none_operated parts.0 parts.1.0)
 
 assign_text : (x : Terminal) (us : List Terminal) (v : Tree) (rest : List Terminal) → x.class ≡ k.Text
-    → reads (n.Assign of_script) (x ∷ us) ≡ Got v rest → Stage (text_tree x) v us rest (loose (look us))
+    → reads (assignment of_script) (x ∷ us) ≡ Got v rest → Stage (text_tree x) v us rest (operates (look us))
 assign_text x us v rest h is =
     let l = look (x ∷ us) in
-    gives (n.Assign of_script) (λ v rest. Stage (text_tree x) v us rest (loose (look us))) (x ∷ us) v rest
-    (subst (λ c. RowGives (n.Assign of_script) (λ v rest. Stage (text_tree x) v us rest (loose (look us))) (x ∷ us)
-    (if (is_name c && is_arrow l.two) || (is_paren c && l.arrow) then arrow_row of_script (is_paren c) else assign_by of_script false c))
-    (sym (look_one x us ∙ h)) (operation_text x us h)) is
+    gives (assignment of_script) (λ v rest. Stage (text_tree x) v us rest (operates (look us))) (x ∷ us) v rest
+    (subst (λ c. RowGives (assignment of_script) (λ v rest. Stage (text_tree x) v us rest (operates (look us))) (x ∷ us)
+    (if (is_name c && is_arrow l.two) || (is_paren c && l.arrow) then arrow_row level.Assignment of_script (is_paren c)
+    else operation_by level.Assignment of_script false c))
+    (sym (look_one x us ∙ h)) (operand_text x us h)) is
 
 pub expr_text : (x : Terminal) (us : List Terminal) (v : Tree) (rest : List Terminal) → x.class ≡ k.Text
     → reads (n.Expr of_script) (x ∷ us) ≡ Got v rest → Stage (text_tree x) v us rest (goes_on (look us))
 expr_text x us v rest h is =
-    gives (n.Expr of_script) (λ v rest. Stage (text_tree x) v us rest (goes_on (look us))) (x ∷ us) v rest (λ parts rest all.
+    gives (n.Expr of_script) (λ v rest. Stage (text_tree x) v us rest (goes_on (look us))) (x ∷ us) v rest
+    (λ parts rest all.
     let read = last_read (n.ExprRest of_script) all.0 parts.1 rest all.1.1 in
-    stage (text_tree x) parts.0 us all.0 rest (loose (look us)) (is_comma (look us).one) parts.1.0 [] listed
+    stage (text_tree x) parts.0 us all.0 rest (operates (look us)) (is_comma (look us).one) parts.1.0 [] listed
     (assign_text x us parts.0 all.0 h all.1.0)
     (λ e same. empty_at (n.ExprRest of_script) [] us all.0 parts.1.0 rest (comma_empty (look us).one e) same read)
-    (λ e same. gives_at (n.ExprRest of_script) (λ w rest. text_of (listed (text_tree x) w) ≡ None) us all.0 parts.1.0 rest (comma_takes (text_tree x) us (look us).one e) same read)
+    (λ e same. gives_at (n.ExprRest of_script) (λ w rest. text_of (listed (text_tree x) w)
+    ≡ None) us all.0 parts.1.0 rest (comma_takes (text_tree x) us (look us).one e) same read)
     refl (none_listed parts.0 parts.1.0)) is

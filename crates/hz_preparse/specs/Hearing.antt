@@ -2,11 +2,11 @@
 use Rattle.std.specs.Prelude.{◌≡◌, ℕ, Bool, true, false, not, ◌&&◌, ◌||◌, List, ◌∷◌, Option, Some, None}
 use Rattle.hz_tree.specs.declared.class.Class.{Class}
 use Rattle.hz_tree.specs.declared.class.Class.TheVariants as k
-use Rattle.hz_tree.specs.Text.{Text}
-use Rattle.hz_tree.specs.Tokens.{Lexeme, is_last}
-use Rattle.hz_tree.specs.Classes.{class_of}
-use Rattle.hz_tree.specs.Look.{Terminal, look}
-use Rattle.hz_tree.specs.Refusals.{is_use_strict}
+use Rattle.hz_tree.specs.tokens.Text.{Text}
+use Rattle.hz_tree.specs.tokens.Tokens.{Lexeme, is_last}
+use Rattle.hz_tree.specs.grammar.Classes.{class_of}
+use Rattle.hz_tree.specs.grammar.Look.{Terminal, look}
+use Rattle.hz_tree.specs.sources.Refusals.{is_use_strict}
 use Rattle.hz_preparse.specs.Prologue.{goes_on, directs_strict}
 use Rattle.hz_preparse.specs.declared.directives.Heard.{Heard}
 use Rattle.hz_preparse.specs.declared.directives.Heard.TheVariants.{Decided, Open}
@@ -25,7 +25,8 @@ abbrev pub HearsOf : (say : List Terminal → Bool) → Lexeme → Heard → Typ
 HearsOf say t (Decided answer) =
     (behind : ℕ) (arrow : Bool) (ts : List Terminal) → say (terminal_of t behind arrow ∷ ts) ≡ answer
 HearsOf say t (Open now) =
-    (is_last t.kind ≡ false) × ((behind : ℕ) (arrow : Bool) (ts : List Terminal) → say (terminal_of t behind arrow ∷ ts) ≡ say_strict now ts)
+    (is_last t.kind ≡ false) × ((behind : ℕ) (arrow : Bool) (ts : List Terminal)
+    → say (terminal_of t behind arrow ∷ ts) ≡ say_strict now ts)
 
 abbrev pub Hears : (pending : Option Bool) → Lexeme → Heard → Type 0
 Hears pending t heard = HearsOf (say_strict pending) t heard

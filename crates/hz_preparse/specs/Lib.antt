@@ -1,4 +1,5 @@
 pub mod Prologue
 pub mod Hearing
 pub mod Outcome
-pub mod Turn
+pub mod Step
+pub mod Starts

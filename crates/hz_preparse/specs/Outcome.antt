@@ -5,12 +5,12 @@ use Rattle.hz_tree.specs.declared.index.FunctionInfo.{FunctionInfo}
 use Rattle.hz_tree.specs.declared.nonterminal.Nonterminal.TheVariants as n
 use Rattle.hz_tree.specs.declared.refusal.Refusal.{Refusal}
 use Rattle.hz_tree.specs.declared.tree.Tree.{Tree}
-use Rattle.hz_tree.specs.Text.{Text}
-use Rattle.hz_tree.specs.Look.{Terminal, terminals}
-use Rattle.hz_tree.specs.Drafts.{Draft, built}
-use Rattle.hz_tree.specs.Reading.{Got, place_ahead, reads}
-use Rattle.hz_tree.specs.Refusals.{max_length, refusal_at, refusal_of, functions as functions_in}
-use Rattle.hz_tree.specs.Stack.{Verdict, Through, At, Lost}
+use Rattle.hz_tree.specs.tokens.Text.{Text}
+use Rattle.hz_tree.specs.grammar.Look.{Terminal, terminals}
+use Rattle.hz_tree.specs.trees.Drafts.{Draft, built}
+use Rattle.hz_tree.specs.reading.Reading.{Got, place_ahead, reads}
+use Rattle.hz_tree.specs.sources.Refusals.{max_length, refusal_at, refusal_of, functions as functions_in}
+use Rattle.hz_tree.specs.reading.Stack.{Verdict, Through, At, Lost}
 use Rattle.hz_preparse.specs.declared.fault.PreFault.{PreFault}
 use Rattle.hz_preparse.specs.declared.fault.PreFault.TheVariants.{Refused, Memory}
 
@@ -46,6 +46,7 @@ pub record IsText (source : Text) : Type 0 where
 
 -- the functions of a text that the grammar reads, or the refusal where it is stuck
 abbrev pub Reads : Text → Result (List FunctionInfo) PreFault → Type 0
-Reads source (Ok functions) = (tree : Tree) × (rest : List Terminal) × ((reads n.Script (terminals source) ≡ Got tree rest) × (functions ≡ functions_in source))
+Reads source (Ok functions) = (tree : Tree) × (rest : List Terminal)
+    × ((reads n.Script (terminals source) ≡ Got tree rest) × (functions ≡ functions_in source))
 Reads source (Err (Refused refusal)) = (strict : Bool) → refusal_of source strict ≡ Some refusal
 Reads source (Err Memory) = Unit {0}

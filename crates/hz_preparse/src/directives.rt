@@ -1,15 +1,13 @@
 //! Whether a source says of itself that it is strict code.
 
 ghost use Rattle.std.specs.Prelude.{◌≡◌, IfOk};
-ghost use Rattle.hz_tree.specs.Look.{terminals};
-ghost use Rattle.hz_tree.specs.Refusals as refusals;
-ghost use Rattle.hz_tree.specs.Tokens.{lexeme};
+ghost use Rattle.hz_tree.specs.grammar.Look.{terminals};
+ghost use Rattle.hz_tree.specs.sources.Refusals as refusals;
+ghost use Rattle.hz_tree.specs.tokens.Tokens.{lexeme};
 ghost use Rattle.hz_preparse.specs.Hearing.{Hears, item_heard};
-ghost use Rattle.hz_preparse.specs.Prologue.{prologue};
+ghost use Rattle.hz_preparse.specs.Prologue.{goes_on_by, prologue};
 
-use crate::follow::goes_on;
-use hz_cursor::class_of;
-use hz_scan::{Braces, Scanner};
+use hz_scan::{Tokens, class_of};
 use hz_tree::{Class, Token};
 use hz_value::Memory;
 use std::alloc::Global;
@@ -26,21 +24,19 @@ pub enum Heard {
 }
 
 /// Whether one of the directives in front of the source says "use strict" (ECMA-262, 11.2.1).
-#[tactic(auto, unfolding(hz_tree::specs::Look::terminals))]
+#[tactic(auto, unfolding(hz_tree::specs::grammar::Look::terminals))]
 pub fn says_strict(alloc: Global, source: &[u8]) -> Result<bool, Memory>
     ensures { IfOk result (λ strict. strict ≡ prologue (terminals source.now)) }
 {
-    let mut scanner = Scanner::new(source);
-    let mut braces = Braces::new(alloc);
+    let mut left = Tokens::new(alloc, source);
     let mut pending = None;
-    'tokens: loop {
-        let token = scanner.next(braces.in_hole());
+    while let Some(token) = left.next()? {
         match hear(pending, &token) {
             Heard::Decided(strict) => return Ok(strict),
             Heard::Open(now) => pending = now,
         }
-        braces.follow(&token)?;
     }
+    Ok(pending.unwrap_or(false))
 }
 
 fn hear(pending: Option<bool>, token: &Token<'_>) -> Heard
@@ -76,4 +72,12 @@ fn is_use_strict(text: &[u8]) -> bool
     ensures { result ≡ refusals.is_use_strict text.now }
 {
     matches!(text, b"\"use strict\"" | b"'use strict'")
+}
+
+/// Whether a token of the class goes on with an expression of which one operand was read. `newline` tells that a line
+/// ends before the token.
+fn goes_on(class: Class, newline: bool) -> bool
+    ensures { result ≡ goes_on_by newline class }
+{
+    class.level_behind(newline).is_some() || matches!(class, Class::Comma)
 }

@@ -1,5 +1,5 @@
 ghost use Rattle.std.specs.Prelude.{◌≡◌};
-ghost use Rattle.hz_tree.specs.Drafts.{change, counted, ended};
+ghost use Rattle.hz_tree.specs.trees.Drafts.{change, counted, ended};
 
 use hz_tree::{FunctionInfo, FunctionInfos, FunctionKind};
 use hz_value::Memory;
@@ -17,7 +17,7 @@ pub struct Draft {
 
 impl Model for Draft {
     ghost use Rattle.std.specs.Prelude.{reverse};
-    ghost use Rattle.hz_tree.specs.Drafts.{Draft as Known};
+    ghost use Rattle.hz_tree.specs.trees.Drafts.{Draft as Known};
 
     ghost Value = { Known };
 
@@ -26,8 +26,8 @@ impl Model for Draft {
 
 impl Draft {
     ghost use Rattle.std.specs.Prelude.{◌≡◌, IfOk, OnOk};
-    ghost use Rattle.hz_tree.specs.Reading.{Opened, Counted, Closed};
-    ghost use Rattle.hz_tree.specs.Drafts.{happens, begun, innermost as innermost_of};
+    ghost use Rattle.hz_tree.specs.reading.Reading.{Opened, Counted, Closed};
+    ghost use Rattle.hz_tree.specs.trees.Drafts.{happens, begun, innermost as innermost_of};
 
     /// The script alone.
     pub fn new(alloc: Global, source: &[u8]) -> Result<Draft, Memory>

@@ -1,6 +1,6 @@
 ghost use Rattle.std.specs.Prelude.{◌≡◌, ◌||◌, Bool, IfOk, IfErr, OnOk, None};
-ghost use Rattle.hz_tree.specs.Look.{terminals};
-ghost use Rattle.hz_tree.specs.Refusals as spec;
+ghost use Rattle.hz_tree.specs.grammar.Look.{terminals};
+ghost use Rattle.hz_tree.specs.sources.Refusals as spec;
 ghost use Rattle.hz_preparse.specs.Outcome.{Refuses, IsText, Reads};
 ghost use Rattle.hz_preparse.specs.Prologue.{prologue};
 
@@ -13,7 +13,8 @@ use hz_tree::{FunctionInfos, Index, Refusal};
 use hz_value::Memory;
 use std::alloc::Global;
 
-const MAX_LENGTH: usize = 16_777_215;
+/// The greatest length of a source, in bytes.
+pub const MAX_LENGTH: usize = 16_777_215;
 
 /// Reads a source, ECMA-262's Script in strict code without what `OutsideKind` lists, and gives its index. `strict`
 /// tells that it is strict code whether it says so or not.
@@ -38,7 +39,7 @@ pub fn preparse<'a>(alloc: Global, source: &'a [u8], strict: bool) -> Result<Ind
 }
 
 /// Whether the grammar can read the bytes at all.
-#[tactic(auto, unfolding(hz_tree::specs::Refusals::refusal_of))]
+#[tactic(auto, unfolding(hz_tree::specs::sources::Refusals::refusal_of))]
 fn check_text(source: &[u8]) -> Result<(), PreFault>
     ensures text { OnOk result (IsText source.now) }
     ensures refused { IfErr result

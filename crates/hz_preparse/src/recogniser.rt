@@ -1,10 +1,10 @@
 //! The grammar's reading of a source, with a stack of symbols in place of recursion.
 
 ghost use Rattle.std.specs.Prelude.{◌≡◌, [], ◌∷◌};
-ghost use Rattle.hz_tree.specs.Refusals as spec;
-ghost use Rattle.hz_tree.specs.Stack.{ends};
+ghost use Rattle.hz_tree.specs.sources.Refusals as spec;
+ghost use Rattle.hz_tree.specs.reading.Stack.{ends};
 ghost use Rattle.hz_preparse.specs.Outcome.{outcome, Answers};
-ghost use Rattle.hz_preparse.specs.Turn.{Begins, TakesToken, Expands, Turns};
+ghost use Rattle.hz_preparse.specs.Step.{Begins, TakesToken, Expands, StepsPast};
 
 use crate::draft::Draft;
 use crate::fault::PreFault;
@@ -22,7 +22,7 @@ pub fn recognise(alloc: Global, cursor: &mut Cursor<'_>, draft: Draft) -> Result
     let mut stack = Stack::new(alloc);
     begin(&mut stack)?;
     while let Some(symbol) = stack.pop() {
-        turn(&mut stack, cursor, &mut draft, symbol)?;
+        step(&mut stack, cursor, &mut draft, symbol)?;
     }
     Ok(draft)
 }
@@ -37,13 +37,13 @@ fn begin(stack: &mut Stack) -> Result<(), PreFault>
 }
 
 /// Goes past one symbol, which was taken from the stack.
-fn turn(
+fn step(
     stack: &mut Stack,
     cursor: &mut Cursor<'_>,
     draft: &mut Draft,
     symbol: Symbol,
 ) -> Result<(), PreFault>
-    ensures { Turns symbol stack.old cursor.old draft.old result stack.new cursor.new draft.new }
+    ensures { StepsPast symbol stack.old cursor.old draft.old result stack.new cursor.new draft.new }
 {
     match symbol {
         Symbol::Take(wanted) => return take(cursor, wanted),
@@ -58,9 +58,10 @@ fn turn(
 fn take(cursor: &mut Cursor<'_>, wanted: Class) -> Result<(), PreFault>
     ensures { TakesToken wanted cursor.old result cursor.new }
 {
-    match cursor.eat(wanted)? {
-        Some(_) => Ok(()),
-        None => Err(PreFault::Refused(refusal(cursor.look().cause(), cursor.place()))),
+    if cursor.eat(wanted) {
+        Ok(())
+    } else {
+        Err(PreFault::Refused(refusal(cursor.look().cause(), cursor.place())))
     }
 }
 

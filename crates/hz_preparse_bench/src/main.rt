@@ -4,8 +4,8 @@
 
 ghost use Rattle.std.specs.Prelude.{◌≡◌, ◌++◌, Some, None, IfOk, true, codes, decimal, length, string_bytes};
 ghost use Rattle.hz_tree.specs.declared.refusal.Refusal.{Refusal};
-ghost use Rattle.hz_tree.specs.Refusals.{refusal_of, functions};
-ghost use Rattle.hz_tree.specs.Shown.{text_of_refusal};
+ghost use Rattle.hz_tree.specs.sources.Refusals.{refusal_of, functions};
+ghost use Rattle.hz_tree.specs.sources.Shown.{text_of_refusal};
 
 use hz_preparse::{PreFault, preparse};
 use std::alloc::{AllocError, Global};

@@ -1,4 +1,9 @@
+pub mod TextLemmas
+pub mod TokenLemmas
+pub mod TokenExamples
+pub mod PlaceLemmas
 pub mod RunLemmas
 pub mod NumberLemmas
 pub mod WordLemmas
-pub mod ListLemmas
+pub mod SpellingLemmas
+pub mod OrderLemmas

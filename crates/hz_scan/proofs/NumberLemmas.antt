@@ -1,14 +1,17 @@
 -- The value of digits, kept at most at a bound on the way.
-use Rattle.std.proofs.Common.{◌≡◌, ℕ, suc, ◌+◌, ◌*◌, ◌≤◌, ◌<◌, min, true, false, cond, ◌==◌, nat_le, refl, List, [], ◌∷◌, length, get_or, drop, drop-cons, add-one, sym, ◌∙◌, ap, arith}
+use Rattle.std.proofs.Common.{◌≡◌, ℕ, suc, ◌+◌, ◌*◌, ◌≤◌, ◌<◌, min, true, false, cond, ◌==◌, nat_le, refl, List, []}
+use Rattle.std.proofs.Common.{◌∷◌, length, get_or, drop, drop-cons, add-one, sym, ◌∙◌, ap, arith}
 use Rattle.std.proofs.Math.Nat.{le-mul_of_pos_right, mul-le-mul_right}
 use Rattle.std.proofs.lemmas.Bool.Decides.{nat_tests}
 use Rattle.std.specs.Char.{digit_value}
-use Rattle.hz_tree.specs.Numbers.{value_from}
+use Rattle.hz_tree.specs.tokens.Numbers.{value_from}
 
-bounded_step : (bound radix value digit : ℕ) → 1 ≤ radix → min (min value bound * radix + digit) bound ≡ min (value * radix + digit) bound
+bounded_step : (bound radix value digit : ℕ) → 1 ≤ radix → min (min value bound * radix + digit) bound
+    ≡ min (value * radix + digit) bound
 bounded_step bound radix value digit h =
     let above : bound ≤ bound * radix = le-mul_of_pos_right bound h in
-    elim (nat_le value bound) as (λ t. nat_le value bound ≡ t → min (min value bound * radix + digit) bound ≡ min (value * radix + digit) bound) [
+    elim (nat_le value bound) as (λ t. nat_le value bound ≡ t → min (min value bound * radix + digit) bound
+    ≡ min (value * radix + digit) bound) [
       | true ↦ λ e. let same : min value bound ≡ value = grind (arith, nat_tests) in rw same refl
       | false ↦ λ e.
           let least : min value bound ≡ bound = grind (arith, nat_tests) in
@@ -21,7 +24,8 @@ pub bounded : (bound radix value : ℕ) (digits : List ℕ) → 1 ≤ radix
     → min (value_from radix (min value bound) digits) bound ≡ min (value_from radix value digits) bound
 bounded bound radix value [] h = omega arith
 bounded bound radix value (b ∷ digits) h =
-    elim (b == 95) as (λ t. min (value_from radix (cond t (min value bound) (min value bound * radix + digit_value b)) digits) bound
+    elim (b == 95) as (λ t. min (value_from radix (cond t (min value bound) (min value bound * radix + digit_value b))
+    digits) bound
     ≡ min (value_from radix (cond t value (value * radix + digit_value b)) digits) bound) [
       | true ↦ bounded bound radix value digits h
       | false ↦ sym (bounded bound radix (min value bound * radix + digit_value b) digits h)
@@ -32,21 +36,26 @@ bounded bound radix value (b ∷ digits) h =
 is_other : (b c : ℕ) → (b ≡ c → ⊥) → (b == c) ≡ false
 is_other b c h = grind (arith, nat_tests)
 
-pub goes_on : (bound radix value whole i : ℕ) (digits : List ℕ) → 1 ≤ radix → i < length digits → (get_or digits i 0 ≡ 95 → ⊥)
+pub goes_on : (bound radix value whole i : ℕ) (digits : List ℕ) → 1 ≤ radix → i < length digits
+    → (get_or digits i 0 ≡ 95 → ⊥)
     → min (value_from radix value (drop i digits)) bound ≡ whole
-    → min (value_from radix (min (value * radix + digit_value (get_or digits i 0)) bound) (drop (i + 1) digits)) bound ≡ whole
+    → min (value_from radix (min (value * radix + digit_value (get_or digits i 0)) bound) (drop (i + 1) digits)) bound
+    ≡ whole
 goes_on bound radix value whole i digits h inside other so_far =
     let b = get_or digits i 0 in
-    let known : min (value_from radix (cond (b == 95) value (value * radix + digit_value b)) (drop (suc i) digits)) bound ≡ whole =
+    let known : min (value_from radix (cond (b == 95) value (value * radix + digit_value b)) (drop (suc i) digits))
+    bound ≡ whole =
     rw (drop-cons digits i 0 inside) at so_far in
-    let known' : min (value_from radix (value * radix + digit_value b) (drop (suc i) digits)) bound ≡ whole = rw (is_other b 95 other) at known in
+    let known' : min (value_from radix (value * radix + digit_value b) (drop (suc i) digits)) bound ≡ whole =
+    rw (is_other b 95 other) at known in
     rw add-one (bounded bound radix (value * radix + digit_value b) (drop (suc i) digits) h ∙ known')
 
 pub passes_on : (bound radix value whole i : ℕ) (digits : List ℕ) → i < length digits → get_or digits i 0 ≡ 95
     → min (value_from radix value (drop i digits)) bound ≡ whole
     → min (value_from radix value (drop (i + 1) digits)) bound ≡ whole
 passes_on bound radix value whole i digits inside is so_far =
-    let known : min (value_from radix (cond (get_or digits i 0 == 95) value (value * radix + digit_value (get_or digits i 0))) (drop (suc i) digits)) bound ≡ whole =
+    let known : min (value_from radix (cond (get_or digits i 0 == 95) value
+    (value * radix + digit_value (get_or digits i 0))) (drop (suc i) digits)) bound ≡ whole =
     rw (drop-cons digits i 0 inside) at so_far in
     let known' : min (value_from radix value (drop (suc i) digits)) bound ≡ whole = rw is at known in
     rw add-one known'

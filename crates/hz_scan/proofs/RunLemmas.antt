@@ -1,18 +1,19 @@
 -- The loop over the parts at the front of a text.
 use Rattle.std.proofs.Common.{◌≡◌, ◌≤◌, length, drop, refl, add-zero, ◌∙◌, ap, sym}
 use Rattle.std.proofs.Math.Bool.{or-false}
-use Rattle.hz_tree.specs.declared.front.Part.{Part}
-use Rattle.hz_tree.specs.Text.{Text, none, joined, run}
-use Rattle.hz_tree.proofs.TextLemmas.{run_stops, joined_goes}
+use Rattle.hz_tree.specs.declared.front.Stretch.{Stretch}
+use Rattle.hz_tree.specs.tokens.Text.{Text, none, joined, run}
+use Rattle.hz_scan.proofs.TextLemmas.{run_stops, joined_goes}
 
-pub joined_none : (front : Part) → joined front none ≡ front
+pub joined_none : (front : Stretch) → joined front none ≡ front
 joined_none front = rw (add-zero front.len, or-false front.marked) refl
 
-pub joined_stops : (part : Text → Part) (z : Text) (front : Part) → (part z).len ≡ 0 → joined front (run part z) ≡ front
+pub joined_stops : (part : Text → Stretch) (z : Text) (front : Stretch) → (part z).len ≡ 0 →
+    joined front (run part z) ≡ front
 joined_stops part z front stops = ap (joined front) (run_stops part z stops) ∙ joined_none front
 
 -- behind one more part
-pub goes_on : (part : Text → Part) (z after : Text) (front whole p : Part) → joined front (run part z) ≡ whole
+pub goes_on : (part : Text → Stretch) (z after : Text) (front whole p : Stretch) → joined front (run part z) ≡ whole
     → p ≡ part z → 1 ≤ p.len → p.len ≤ length z → after ≡ drop p.len z
     → joined (joined front p) (run part after) ≡ whole
 goes_on part z after front whole p so_far is moves within behind =

@@ -1,11 +1,12 @@
 -- A word is looked up among the reserved words with its first letter.
-use Rattle.std.proofs.Common.{◌≡◌, ℕ, Bool, true, false, ◌||◌, ◌&&◌, cond, ◌==◌, List, [], ◌∷◌, filter, refl, ap, sym, ◌∙◌, arith}
+use Rattle.std.proofs.Common.{◌≡◌, ℕ, Bool, true, false, ◌||◌, ◌&&◌, cond, ◌==◌, List, [], ◌∷◌, filter, refl, ap, sym}
+use Rattle.std.proofs.Common.{◌∙◌, arith}
 use Rattle.std.proofs.lemmas.Bool.Decides.{nat_tests}
 use Rattle.std.proofs.lemmas.Slice.Eq.{bytes_eq-Decides}
 use Rattle.std.specs.List.{list_any, list_all}
 use Rattle.std.specs.Str.{bytes_eq}
 
-other_word : (w word : List ℕ) → (w ≡ word → ⊥) → bytes_eq w word ≡ false
+pub other_word : (w word : List ℕ) → (w ≡ word → ⊥) → bytes_eq w word ≡ false
 other_word w word other =
     elim (bytes_eq w word) as (λ t. bytes_eq w word ≡ t → t ≡ false) [
       | true ↦ λ e. absurd (other ((bytes_eq-Decides w word).0 e))
@@ -14,9 +15,10 @@ other_word w word other =
 
 -- a test that the word does not pass tells it from each word that does
 tells_apart : (p : List ℕ → Bool) (w word : List ℕ) → p w ≡ true → p word ≡ false → bytes_eq w word ≡ false
-tells_apart p w word passes fails = other_word w word (λ same. let clash : true ≡ false = sym passes ∙ ap p same ∙ fails in cc)
+tells_apart p w word passes fails = other_word w word (λ same. let clash : true ≡ false = sym passes ∙ ap p same
+    ∙ fails in cc)
 
-both_true : (a b : Bool) → (a && b) ≡ true → (a ≡ true) × (b ≡ true)
+pub both_true : (a b : Bool) → (a && b) ≡ true → (a ≡ true) × (b ≡ true)
 both_true true true h = (refl, refl)
 both_true true false h = absurd (cc)
 both_true false b h = absurd (cc)

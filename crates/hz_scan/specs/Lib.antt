@@ -1,2 +1,4 @@
+pub mod Order
 pub mod Reach
+pub mod Spelling
 pub mod State

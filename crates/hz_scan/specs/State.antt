@@ -1,7 +1,8 @@
 -- What a scanner means.
-use Rattle.std.specs.Prelude.{◌≡◌, ℕ, ◌+◌, ◌≤◌, Bool, if◌then◌else◌, Option, Some, None, is_some, unwrap_or, length, slice_range}
-use Rattle.hz_tree.specs.Text.{Text}
-use Rattle.hz_tree.specs.Tokens.{Lexeme, token_behind, is_last}
+use Rattle.std.specs.Prelude.{◌≡◌, ℕ, ◌+◌, ◌≤◌, Bool, if◌then◌else◌, Option, Some, None, is_some, unwrap_or, length}
+use Rattle.std.specs.Prelude.{slice_range}
+use Rattle.hz_tree.specs.tokens.Text.{Text}
+use Rattle.hz_tree.specs.tokens.Tokens.{Lexeme, token_behind, is_last}
 
 pub record State : Type 0 where
   pub source : Text

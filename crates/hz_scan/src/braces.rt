@@ -22,7 +22,7 @@ impl Model for Braces {
 
 impl Braces {
     ghost use Rattle.std.specs.Prelude.{◌≡◌, [], OnOk, OnErr, slice_index};
-    ghost use Rattle.hz_tree.specs.Tokens as spec;
+    ghost use Rattle.hz_tree.specs.tokens.Tokens as spec;
 
     /// No brace is open.
     pub fn new(alloc: Global) -> Braces

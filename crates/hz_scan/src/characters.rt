@@ -1,7 +1,7 @@
 //! The character at the front of a text, and its class.
 
 ghost use Rattle.std.specs.Prelude.{◌≡◌, ◌≢◌, ◌<◌, ◌≤◌, length, true};
-ghost use Rattle.hz_tree.specs.Characters as spec;
+ghost use Rattle.hz_tree.specs.tokens.Characters as spec;
 
 use crate::bytes::byte;
 
@@ -13,7 +13,7 @@ fn six_bits(z: &[u8], at: usize) -> u32
 }
 
 /// Its code point, in a text that is well-formed UTF-8.
-#[tactic(auto, unfolding(hz_tree::specs::Characters::code_point))]
+#[tactic(auto, unfolding(hz_tree::specs::tokens::Characters::code_point))]
 pub fn code_point(z: &[u8]) -> u32
     ensures { result ≡ spec.code_point z.now }
 {
@@ -46,7 +46,7 @@ fn width(b: u8) -> usize
 }
 
 /// Its length in bytes, no more than the text has.
-#[tactic(auto, unfolding(hz_tree::specs::Characters::char_len))]
+#[tactic(auto, unfolding(hz_tree::specs::tokens::Characters::char_len))]
 pub fn char_len(z: &[u8]) -> usize
     ensures value { result ≡ spec.char_len z.now }
     ensures within { result ≤ length z.now }
@@ -55,7 +55,7 @@ pub fn char_len(z: &[u8]) -> usize
     width(byte(z, 0)).min(z.len())
 }
 
-#[tactic(auto, unfolding(hz_tree::specs::Characters::is_white_space))]
+#[tactic(auto, unfolding(hz_tree::specs::tokens::Characters::is_white_space))]
 pub fn is_white_space(c: u32) -> bool
     ensures { result ≡ spec.is_white_space c }
 {
@@ -67,7 +67,7 @@ pub fn is_white_space(c: u32) -> bool
     }
 }
 
-#[tactic(auto, unfolding(hz_tree::specs::Characters::is_line_terminator))]
+#[tactic(auto, unfolding(hz_tree::specs::tokens::Characters::is_line_terminator))]
 pub fn is_line_terminator(c: u32) -> bool
     ensures { result ≡ spec.is_line_terminator c }
 {
@@ -78,7 +78,7 @@ pub fn is_line_terminator(c: u32) -> bool
 }
 
 /// Whether the character may begin a name.
-#[tactic(auto, unfolding(hz_tree::specs::Characters::starts_name))]
+#[tactic(auto, unfolding(hz_tree::specs::tokens::Characters::starts_name))]
 pub fn starts_name(c: u32) -> bool
     ensures { result ≡ spec.starts_name c }
 {
@@ -93,7 +93,7 @@ pub fn starts_name(c: u32) -> bool
 }
 
 /// Whether the character may go on with a name.
-#[tactic(auto, unfolding(hz_tree::specs::Characters::continues_name))]
+#[tactic(auto, unfolding(hz_tree::specs::tokens::Characters::continues_name))]
 pub fn continues_name(c: u32) -> bool
     ensures { result ≡ spec.continues_name c }
 {
@@ -107,7 +107,7 @@ pub fn continues_name(c: u32) -> bool
     }
 }
 
-#[tactic(auto, unfolding(hz_tree::specs::Characters::starts_name))]
+#[tactic(auto, unfolding(hz_tree::specs::tokens::Characters::starts_name))]
 fn starts_ascii_name(b: u8) -> bool
     requires { b < 0x80 }
     ensures { result ≡ spec.starts_name b }
@@ -116,7 +116,7 @@ fn starts_ascii_name(b: u8) -> bool
 }
 
 /// Whether the ASCII character may go on with a name.
-#[tactic(auto, unfolding(hz_tree::specs::Characters::continues_name))]
+#[tactic(auto, unfolding(hz_tree::specs::tokens::Characters::continues_name))]
 pub fn continues_ascii_name(b: u8) -> bool
     requires { b < 0x80 }
     ensures value { result ≡ spec.continues_name b }

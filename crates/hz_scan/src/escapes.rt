@@ -3,7 +3,7 @@
 ghost use Rattle.std.specs.Prelude.{◌≡◌, ◌<◌, ◌≤◌, ◌+◌, length, true};
 ghost use Rattle.std.specs.Char.{is_ascii_hexdigit};
 ghost use Rattle.std.specs.List.{prefix_len};
-ghost use Rattle.hz_tree.specs.Literals as spec;
+ghost use Rattle.hz_tree.specs.tokens.Literals as spec;
 
 use crate::bytes::{byte, rest};
 use crate::numbers::value;
@@ -26,7 +26,7 @@ fn hex_digits(z: &[u8]) -> usize
     len
 }
 
-#[tactic(auto, unfolding(hz_tree::specs::Literals::braced_escape))]
+#[tactic(auto, unfolding(hz_tree::specs::tokens::Literals::braced_escape))]
 fn braced_escape(z: &[u8]) -> usize
     requires { 3 ≤ length z.now }
     ensures value { result ≡ spec.braced_escape z.now }
@@ -41,7 +41,7 @@ fn braced_escape(z: &[u8]) -> usize
     }
 }
 
-#[tactic(auto, unfolding(hz_tree::specs::Literals::unicode_escape))]
+#[tactic(auto, unfolding(hz_tree::specs::tokens::Literals::unicode_escape))]
 fn unicode_escape(z: &[u8]) -> usize
     ensures value { result ≡ spec.unicode_escape z.now }
     ensures within { result ≤ length z.now }
@@ -56,7 +56,7 @@ fn unicode_escape(z: &[u8]) -> usize
 }
 
 /// The length of the escape at the front of a text that begins with `\`, or 0 where it is malformed.
-#[tactic(auto, unfolding(hz_tree::specs::Literals::escape_len))]
+#[tactic(auto, unfolding(hz_tree::specs::tokens::Literals::escape_len))]
 pub fn escape_len(z: &[u8]) -> usize
     ensures value { result ≡ spec.escape_len z.now }
     ensures within { result ≤ length z.now }
@@ -79,7 +79,7 @@ pub fn escape_len(z: &[u8]) -> usize
 }
 
 /// Whether the escape is `\1` to `\9`, or `\0` before a digit.
-#[tactic(auto, unfolding(hz_tree::specs::Literals::is_octal_escape))]
+#[tactic(auto, unfolding(hz_tree::specs::tokens::Literals::is_octal_escape))]
 pub fn is_octal_escape(z: &[u8]) -> bool
     ensures { result ≡ spec.is_octal_escape z.now }
 {

@@ -1,5 +1,5 @@
 ghost use Rattle.std.specs.Prelude.{◌≡◌, false, length};
-ghost use Rattle.hz_tree.specs.Tokens.{token_behind};
+ghost use Rattle.hz_tree.specs.tokens.Tokens.{token_behind};
 
 use crate::scanner::Scanner;
 

@@ -1,7 +1,7 @@
 //! The token at the front of a text.
 
 ghost use Rattle.std.specs.Prelude.{◌≡◌, ◌<◌, ◌≤◌, ◌||◌, ◌&&◌, length, true};
-ghost use Rattle.hz_tree.specs.Tokens as spec;
+ghost use Rattle.hz_tree.specs.tokens.Tokens as spec;
 
 use crate::bytes::byte;
 use crate::characters::{code_point, starts_name};
@@ -21,7 +21,7 @@ fn is_html_comment(leads: bool, z: &[u8]) -> bool
     }
 }
 
-#[tactic(auto, unfolding(hz_tree::specs::Tokens::sign))]
+#[tactic(auto, unfolding(hz_tree::specs::tokens::Tokens::sign))]
 fn sign(z: &[u8]) -> Front
     ensures value { result ≡ spec.sign z.now }
     ensures within { result.len ≤ length z.now }
@@ -37,7 +37,7 @@ fn sign(z: &[u8]) -> Front
     }
 }
 
-#[tactic(auto, unfolding(hz_tree::specs::Tokens::other))]
+#[tactic(auto, unfolding(hz_tree::specs::tokens::Tokens::other))]
 fn other(z: &[u8]) -> Front
     ensures value { result ≡ spec.other z.now }
     ensures within { result.len ≤ length z.now }
@@ -56,7 +56,7 @@ fn other(z: &[u8]) -> Front
 
 /// The token at the front of a text that begins with no space and no comment that is finished. `hole` says
 /// whether a `}` goes on with a template, and `leads` whether the token is the first one on its line.
-#[tactic(auto, unfolding(hz_tree::specs::Tokens::token))]
+#[tactic(auto, unfolding(hz_tree::specs::tokens::Tokens::token))]
 pub fn token(hole: bool, leads: bool, z: &[u8]) -> Front
     ensures value { result ≡ spec.token hole leads z.now }
     ensures within { result.len ≤ length z.now }

@@ -1,16 +1,19 @@
-// The scanner: it gives the tokens of a source one after the other, and takes no memory.
+// The scanner: it gives the tokens of a source one after the other, and the class by which the grammar knows each.
 //
 // The layer above relies on this: a `Scanner` is a source and a place in it, and `next` gives the token that
-// hz_tree's `specs/Tokens.antt` has behind the place. The text of a token is the source's slice at its place.
-// A whole source is scanned in time linear in its length.
+// hz_tree's `specs/tokens/Tokens.antt` has behind the place; it takes no memory. `Tokens` is the list of the source's
+// tokens that are left, with memory for the braces that are open. The text of a token is the source's slice at its
+// place. `laws.rt` says that tokens lie one behind the other, and what comes where a scan starts in the middle.
 #![tactic(auto)]
 
 mod braces;
 mod bytes;
 mod characters;
+mod class;
 mod escapes;
 mod first;
 mod front;
+mod laws;
 mod list;
 mod literals;
 mod names;
@@ -18,11 +21,14 @@ mod numbers;
 mod punctuators;
 mod run;
 mod scanner;
+mod signs;
 mod spaces;
-#[cfg(test)]
-mod tests;
+mod tokens;
+mod words;
 
-pub use braces::Braces;
+pub use class::class_of;
 pub use first::first_token_len;
+pub use laws::{tokens_from_the_middle, tokens_in_order};
 pub use list::list_tokens;
 pub use scanner::Scanner;
+pub use tokens::Tokens;

@@ -1,14 +1,14 @@
 //! String literals and templates.
 
 ghost use Rattle.std.specs.Prelude.{◌≡◌, ◌≤◌, ◌+◌, length, true, codes, slice_index, ◌≢◌};
-ghost use Rattle.hz_tree.specs.Text.{begins};
-ghost use Rattle.hz_tree.specs.Literals as spec;
+ghost use Rattle.hz_tree.specs.tokens.Text.{begins};
+ghost use Rattle.hz_tree.specs.tokens.Literals as spec;
 
 use crate::bytes::{byte, rest};
 use crate::escapes::{escape_len, is_octal_escape};
 use crate::numbers::bad;
 use crate::run::{NONE, Repeats, plain, run};
-use hz_tree::{BadKind, Front, Part, TokenKind};
+use hz_tree::{BadKind, Front, Stretch, TokenKind};
 
 /// A byte of a string literal or an escape in it.
 #[derive(Drop)]
@@ -19,13 +19,13 @@ struct InText {
 impl Repeats for InText {
     ghost part_of = { λ s. spec.text_part s.quote };
 
-    #[tactic(auto, unfolding(hz_tree::specs::Literals::text_part))]
-    fn part(&self, z: &[u8]) -> Part {
+    #[tactic(auto, unfolding(hz_tree::specs::tokens::Literals::text_part))]
+    fn part(&self, z: &[u8]) -> Stretch {
         let b = byte(z, 0);
         if z.is_empty() || b == self.quote || b == b'\n' || b == b'\r' {
             NONE
         } else if b == b'\\' {
-            Part {
+            Stretch {
                 len: escape_len(z),
                 marked: is_octal_escape(z),
             }
@@ -36,7 +36,7 @@ impl Repeats for InText {
 }
 
 /// The string literal at the front of a text that begins with a quote.
-#[tactic(auto, unfolding(hz_tree::specs::Literals::text))]
+#[tactic(auto, unfolding(hz_tree::specs::tokens::Literals::text))]
 pub fn text(z: &[u8]) -> Front
     requires some { 1 ≤ length z.now }
     requires quoted { slice_index z.now 0 ≢ 0 }
@@ -62,8 +62,8 @@ struct InTemplate;
 impl Repeats for InTemplate {
     ghost part_of = { λ _. spec.template_part };
 
-    #[tactic(auto, unfolding(hz_tree::specs::Literals::template_part))]
-    fn part(&self, z: &[u8]) -> Part {
+    #[tactic(auto, unfolding(hz_tree::specs::tokens::Literals::template_part))]
+    fn part(&self, z: &[u8]) -> Stretch {
         let b = byte(z, 0);
         if z.is_empty() || b == b'`' || begins_hole(z) {
             NONE
@@ -80,7 +80,7 @@ impl Repeats for InTemplate {
 }
 
 /// The part of a template at the front of a text that begins with a backquote, where it is the first, or with `}`.
-#[tactic(auto, unfolding(hz_tree::specs::Literals::template))]
+#[tactic(auto, unfolding(hz_tree::specs::tokens::Literals::template))]
 pub fn template(first: bool, z: &[u8]) -> Front
     requires { 1 ≤ length z.now }
     ensures value { result ≡ spec.template first z.now }

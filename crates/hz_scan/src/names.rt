@@ -3,12 +3,12 @@
 ghost use Rattle.std.specs.Prelude.{◌≡◌, ◌<◌, ◌≤◌, length};
 ghost use Rattle.std.specs.List.{list_any};
 ghost use Rattle.std.specs.Str.{bytes_eq};
-ghost use Rattle.hz_tree.specs.Names as spec;
+ghost use Rattle.hz_tree.specs.tokens.Names as spec;
 
 use crate::bytes::{byte, rest};
 use crate::characters::{char_len, code_point, continues_ascii_name, continues_name};
 use crate::run::{NONE, Repeats, plain, run};
-use hz_tree::{Front, Part, TokenKind};
+use hz_tree::{Front, Stretch, TokenKind};
 
 // The reserved words by their first letter.
 const IN_B: [&[u8]; 1] = [b"break"];
@@ -91,8 +91,8 @@ impl Repeats for InName {
     ghost part_of = { λ _. spec.name_part };
 
     #[inline]
-    #[tactic(auto, unfolding(hz_tree::specs::Names::name_part, hz_tree::specs::Characters::code_point, hz_tree::specs::Characters::char_len))]
-    fn part(&self, z: &[u8]) -> Part {
+    #[tactic(auto, unfolding(hz_tree::specs::tokens::Names::name_part, hz_tree::specs::tokens::Characters::code_point, hz_tree::specs::tokens::Characters::char_len))]
+    fn part(&self, z: &[u8]) -> Stretch {
         let b = byte(z, 0);
         if b < 0x80 {
             if continues_ascii_name(b) {
@@ -109,7 +109,7 @@ impl Repeats for InName {
 }
 
 /// The name or word at the front of a text whose first character may begin one.
-#[tactic(auto, unfolding(hz_tree::specs::Names::name))]
+#[tactic(auto, unfolding(hz_tree::specs::tokens::Names::name))]
 pub fn name(z: &[u8]) -> Front
     ensures value { result ≡ spec.name z.now }
     ensures within { result.len ≤ length z.now }

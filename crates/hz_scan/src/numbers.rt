@@ -3,15 +3,13 @@
 ghost use Rattle.std.specs.Prelude.{◌≡◌, ◌<◌, ◌≤◌, ◌+◌, ◌^◌, length, min, true, slice_index};
 ghost use Rattle.std.specs.Char.{digit_value, is_digit, is_ascii_digit};
 ghost use Rattle.std.specs.List.{prefix_len};
-ghost use Rattle.hz_tree.specs.Numbers as spec;
+ghost use Rattle.hz_tree.specs.tokens.Numbers as spec;
 
 use crate::bytes::{byte, rest};
 use crate::characters::{code_point, starts_name};
 use crate::run::{NONE, Repeats, plain, run};
-use hz_tree::{BadKind, Front, OutsideKind, Part, TokenKind};
-
-/// The greatest integer of which all smaller ones are numbers too (ECMA-262, 21.1.2.6).
-const MAX_SAFE_INTEGER: u64 = 9007199254740991;
+use hz_tree::{BadKind, Front, OutsideKind, Stretch, TokenKind};
+use hz_value::MAX_SAFE;
 
 /// A token that does not begin here.
 pub fn bad(cause: BadKind) -> Front
@@ -44,7 +42,7 @@ fn has_digit(z: &[u8], at: usize, radix: u8) -> bool
 }
 
 /// The number that the digits stand for, or 2 ^ 53 where it is greater.
-#[tactic(auto, unfolding(hz_tree::specs::Numbers::value_of))]
+#[tactic(auto, unfolding(hz_tree::specs::tokens::Numbers::value_of))]
 pub fn value(radix: u8, digits: &[u8]) -> u64
     requires { 1 ≤ radix }
     ensures { result ≡ min (spec.value_of radix digits.now) (2 ^ 53) }
@@ -52,7 +50,7 @@ pub fn value(radix: u8, digits: &[u8]) -> u64
     let mut value: u64 = 0;
     for b in digits {
         if *b != b'_' {
-            value = (value * radix as u64 + digit(*b) as u64).min(MAX_SAFE_INTEGER + 1);
+            value = (value * radix as u64 + digit(*b) as u64).min(MAX_SAFE + 1);
         }
     }
     value
@@ -68,8 +66,8 @@ struct Digits {
 impl Repeats for Digits {
     ghost part_of = { λ s. spec.digit_part s.radix };
 
-    #[tactic(auto, unfolding(hz_tree::specs::Numbers::digit_part))]
-    fn part(&self, z: &[u8]) -> Part {
+    #[tactic(auto, unfolding(hz_tree::specs::tokens::Numbers::digit_part))]
+    fn part(&self, z: &[u8]) -> Stretch {
         if has_digit(z, 0, self.radix) {
             plain(1)
         } else if byte(z, 0) == b'_' && has_digit(z, 1, self.radix) {
@@ -81,7 +79,7 @@ impl Repeats for Digits {
 }
 
 /// A literal of this kind and length, by what stands behind it.
-#[tactic(auto, unfolding(hz_tree::specs::Numbers::literal))]
+#[tactic(auto, unfolding(hz_tree::specs::tokens::Numbers::literal))]
 fn literal(kind: TokenKind, len: usize, z: &[u8]) -> Front
     requires { len ≤ length z.now }
     ensures value { result ≡ spec.literal kind len z.now }
@@ -97,7 +95,7 @@ fn literal(kind: TokenKind, len: usize, z: &[u8]) -> Front
     }
 }
 
-#[tactic(auto, unfolding(hz_tree::specs::Numbers::radix_of))]
+#[tactic(auto, unfolding(hz_tree::specs::tokens::Numbers::radix_of))]
 fn radix_of(letter: u8) -> u8
     ensures value { result ≡ spec.radix_of letter }
     ensures small { result ≤ 16 }
@@ -110,7 +108,7 @@ fn radix_of(letter: u8) -> u8
     }
 }
 
-#[tactic(auto, unfolding(hz_tree::specs::Numbers::non_decimal, hz_tree::specs::Numbers::digits_len, hz_tree::specs::Numbers::valued))]
+#[tactic(auto, unfolding(hz_tree::specs::tokens::Numbers::non_decimal, hz_tree::specs::tokens::Numbers::digits_len, hz_tree::specs::tokens::Numbers::valued))]
 fn non_decimal(radix: u8, z: &[u8]) -> Front
     requires small { radix ≤ 16 }
     requires has_radix { radix ≡ spec.radix_of (slice_index z.now 1) }
@@ -121,14 +119,14 @@ fn non_decimal(radix: u8, z: &[u8]) -> Front
     let digits = rest(z, 2);
     let len = run(&Digits { radix }, rest(digits, 1)).len + 1;
     let value = value(radix, &digits[..len]);
-    if value > MAX_SAFE_INTEGER {
+    if value > MAX_SAFE {
         bad(BadKind::Outside(OutsideKind::NumberForm))
     } else {
         literal(TokenKind::Number(value), len + 2, z)
     }
 }
 
-#[tactic(auto, unfolding(hz_tree::specs::Numbers::decimal))]
+#[tactic(auto, unfolding(hz_tree::specs::tokens::Numbers::decimal))]
 fn decimal(len: usize, z: &[u8]) -> Front
     requires { len ≤ length z.now }
     ensures value { result ≡ spec.decimal len z.now }
@@ -136,7 +134,7 @@ fn decimal(len: usize, z: &[u8]) -> Front
 {
     let value = value(10, &z[..len]);
     let next = byte(z, len);
-    if value > MAX_SAFE_INTEGER || next == b'.' || next == b'e' || next == b'E' {
+    if value > MAX_SAFE || next == b'.' || next == b'e' || next == b'E' {
         bad(BadKind::Outside(OutsideKind::NumberForm))
     } else {
         literal(TokenKind::Number(value), len, z)
@@ -155,7 +153,7 @@ fn ascii_digits(z: &[u8]) -> usize
 }
 
 /// The literal at the front of a text that begins with a digit.
-#[tactic(auto, unfolding(hz_tree::specs::Numbers::number))]
+#[tactic(auto, unfolding(hz_tree::specs::tokens::Numbers::number))]
 pub fn number(z: &[u8]) -> Front
     requires { is_ascii_digit (slice_index z.now 0) ≡ true }
     ensures value { result ≡ spec.number z.now }

@@ -1,14 +1,14 @@
 //! Punctuators, by their first byte.
 
 ghost use Rattle.std.specs.Prelude.{◌≡◌, ◌<◌, ◌≤◌, length};
-ghost use Rattle.hz_tree.specs.Punctuators as spec;
+ghost use Rattle.hz_tree.specs.tokens.Punctuators as spec;
 ghost use Rattle.hz_scan.specs.Reach.{Reaches};
 
 use crate::bytes::byte;
 
 // In each of these the arguments are the bytes behind the first one.
 
-#[tactic(auto, unfolding(hz_tree::specs::Punctuators::punctuator_of))]
+#[tactic(auto, unfolding(hz_tree::specs::tokens::Punctuators::punctuator_of))]
 fn dot(second: u8, third: u8, fourth: u8) -> usize
     ensures value { result ≡ spec.punctuator_of 46 second third fourth }
     ensures within { Reaches result second third fourth }
@@ -20,7 +20,7 @@ fn dot(second: u8, third: u8, fourth: u8) -> usize
     }
 }
 
-#[tactic(auto, unfolding(hz_tree::specs::Punctuators::punctuator_of))]
+#[tactic(auto, unfolding(hz_tree::specs::tokens::Punctuators::punctuator_of))]
 fn less(second: u8, third: u8, fourth: u8) -> usize
     ensures value { result ≡ spec.punctuator_of 60 second third fourth }
     ensures within { Reaches result second third fourth }
@@ -32,7 +32,7 @@ fn less(second: u8, third: u8, fourth: u8) -> usize
     }
 }
 
-#[tactic(auto, unfolding(hz_tree::specs::Punctuators::punctuator_of))]
+#[tactic(auto, unfolding(hz_tree::specs::tokens::Punctuators::punctuator_of))]
 fn greater(second: u8, third: u8, fourth: u8) -> usize
     ensures value { result ≡ spec.punctuator_of 62 second third fourth }
     ensures within { Reaches result second third fourth }
@@ -45,7 +45,7 @@ fn greater(second: u8, third: u8, fourth: u8) -> usize
     }
 }
 
-#[tactic(auto, unfolding(hz_tree::specs::Punctuators::punctuator_of))]
+#[tactic(auto, unfolding(hz_tree::specs::tokens::Punctuators::punctuator_of))]
 fn equals(second: u8, third: u8, fourth: u8) -> usize
     ensures value { result ≡ spec.punctuator_of 61 second third fourth }
     ensures within { Reaches result second third fourth }
@@ -57,7 +57,7 @@ fn equals(second: u8, third: u8, fourth: u8) -> usize
     }
 }
 
-#[tactic(auto, unfolding(hz_tree::specs::Punctuators::punctuator_of))]
+#[tactic(auto, unfolding(hz_tree::specs::tokens::Punctuators::punctuator_of))]
 fn bang(second: u8, third: u8, fourth: u8) -> usize
     ensures value { result ≡ spec.punctuator_of 33 second third fourth }
     ensures within { Reaches result second third fourth }
@@ -69,7 +69,7 @@ fn bang(second: u8, third: u8, fourth: u8) -> usize
     }
 }
 
-#[tactic(auto, unfolding(hz_tree::specs::Punctuators::punctuator_of))]
+#[tactic(auto, unfolding(hz_tree::specs::tokens::Punctuators::punctuator_of))]
 fn plus(second: u8, third: u8, fourth: u8) -> usize
     ensures value { result ≡ spec.punctuator_of 43 second third fourth }
     ensures within { Reaches result second third fourth }
@@ -80,7 +80,7 @@ fn plus(second: u8, third: u8, fourth: u8) -> usize
     }
 }
 
-#[tactic(auto, unfolding(hz_tree::specs::Punctuators::punctuator_of))]
+#[tactic(auto, unfolding(hz_tree::specs::tokens::Punctuators::punctuator_of))]
 fn minus(second: u8, third: u8, fourth: u8) -> usize
     ensures value { result ≡ spec.punctuator_of 45 second third fourth }
     ensures within { Reaches result second third fourth }
@@ -91,7 +91,7 @@ fn minus(second: u8, third: u8, fourth: u8) -> usize
     }
 }
 
-#[tactic(auto, unfolding(hz_tree::specs::Punctuators::punctuator_of))]
+#[tactic(auto, unfolding(hz_tree::specs::tokens::Punctuators::punctuator_of))]
 fn star(second: u8, third: u8, fourth: u8) -> usize
     ensures value { result ≡ spec.punctuator_of 42 second third fourth }
     ensures within { Reaches result second third fourth }
@@ -103,7 +103,7 @@ fn star(second: u8, third: u8, fourth: u8) -> usize
     }
 }
 
-#[tactic(auto, unfolding(hz_tree::specs::Punctuators::punctuator_of))]
+#[tactic(auto, unfolding(hz_tree::specs::tokens::Punctuators::punctuator_of))]
 fn ampersand(second: u8, third: u8, fourth: u8) -> usize
     ensures value { result ≡ spec.punctuator_of 38 second third fourth }
     ensures within { Reaches result second third fourth }
@@ -115,7 +115,7 @@ fn ampersand(second: u8, third: u8, fourth: u8) -> usize
     }
 }
 
-#[tactic(auto, unfolding(hz_tree::specs::Punctuators::punctuator_of))]
+#[tactic(auto, unfolding(hz_tree::specs::tokens::Punctuators::punctuator_of))]
 fn bar(second: u8, third: u8, fourth: u8) -> usize
     ensures value { result ≡ spec.punctuator_of 124 second third fourth }
     ensures within { Reaches result second third fourth }
@@ -127,7 +127,7 @@ fn bar(second: u8, third: u8, fourth: u8) -> usize
     }
 }
 
-#[tactic(auto, unfolding(hz_tree::specs::Punctuators::punctuator_of))]
+#[tactic(auto, unfolding(hz_tree::specs::tokens::Punctuators::punctuator_of))]
 fn question(second: u8, third: u8, fourth: u8) -> usize
     ensures value { result ≡ spec.punctuator_of 63 second third fourth }
     ensures within { Reaches result second third fourth }
@@ -141,7 +141,7 @@ fn question(second: u8, third: u8, fourth: u8) -> usize
 }
 
 /// The length of the punctuator at the front of a text, or 0 where none stands there.
-#[tactic(auto, unfolding(hz_tree::specs::Punctuators::punctuator_len, hz_tree::specs::Punctuators::punctuator_of))]
+#[tactic(auto, unfolding(hz_tree::specs::tokens::Punctuators::punctuator_len, hz_tree::specs::tokens::Punctuators::punctuator_of))]
 pub fn punctuator_len(z: &[u8]) -> usize
     ensures value { result ≡ spec.punctuator_len z.now }
     ensures within { result ≤ length z.now }

@@ -1,5 +1,5 @@
 ghost use Rattle.std.specs.Prelude.{◌≡◌, ◌≤◌, ◌+◌, length, slice_range};
-ghost use Rattle.hz_tree.specs.Tokens.{lexeme, token_behind};
+ghost use Rattle.hz_tree.specs.tokens.Tokens.{lexeme, token_behind};
 
 use crate::bytes::rest;
 use crate::front::token;
@@ -22,7 +22,7 @@ pub struct Scanner<'a> {
 
 impl<'a> Model for Scanner<'a> {
     ghost use Rattle.std.specs.Prelude.{◌≤◌, length, option_map, IfSome};
-    ghost use Rattle.hz_tree.specs.Tokens.{lexeme};
+    ghost use Rattle.hz_tree.specs.tokens.Tokens.{lexeme};
     ghost use Rattle.hz_scan.specs.State.{State, Lies};
 
     ghost Value = { State };
@@ -34,7 +34,7 @@ impl<'a> Model for Scanner<'a> {
 
 impl<'a> Scanner<'a> {
     ghost use Rattle.std.specs.Prelude.{◌≡◌, ◌≤◌, length};
-    ghost use Rattle.hz_tree.specs.Tokens.{lexeme};
+    ghost use Rattle.hz_tree.specs.tokens.Tokens.{lexeme};
     ghost use Rattle.hz_scan.specs.State.{starting, token_from, behind, Lies};
 
     /// A scanner at the start of the source.
@@ -80,8 +80,8 @@ impl<'a> Scanner<'a> {
 }
 
 /// The token behind a place.
-#[tactic(auto, unfolding(hz_tree::specs::Tokens::token_behind))]
-fn next_token<'a>(source: &'a [u8], place: usize, hole: bool) -> Token<'a>
+#[tactic(auto, unfolding(hz_tree::specs::tokens::Tokens::token_behind))]
+pub fn next_token<'a>(source: &'a [u8], place: usize, hole: bool) -> Token<'a>
     requires { place ≤ length source.now }
     ensures token { lexeme result ≡ token_behind hole source.now place }
     ensures after { place ≤ result.at }

@@ -3,28 +3,24 @@
 #![tactic(auto)]
 
 ghost use Rattle.std.specs.Prelude.{◌≡◌, IfOk, length};
-ghost use Rattle.hz_tree.specs.Tokens.{tokens};
+ghost use Rattle.hz_tree.specs.tokens.Tokens.{tokens};
 
-use hz_scan::{Braces, Scanner};
+use hz_scan::Tokens;
 use hz_value::Memory;
 use std::alloc::Global;
 use std::{env, fs, io};
 
 /// How many tokens the source has, the last one included.
+#[tactic(auto, using(hz_scan::proofs::OrderLemmas::few))]
 fn count_tokens(alloc: Global, source: &[u8]) -> Result<usize, Memory>
     ensures { IfOk result (λ count. count ≡ length (tokens source.now)) }
 {
-    let mut scanner = Scanner::new(source);
-    let mut braces = Braces::new(alloc);
-    let mut before = 0;
-    'tokens: loop {
-        let token = scanner.next(braces.in_hole());
-        if token.kind.is_last() {
-            return Ok(before + 1);
-        }
-        braces.follow(&token)?;
-        before += 1;
+    let mut left = Tokens::new(alloc, source);
+    let mut count = 0;
+    while let Some(_token) = left.next()? {
+        count += 1;
     }
+    Ok(count)
 }
 
 /// The number that a word on the command line says, or 1.

@@ -9,10 +9,12 @@ returns-in_err-check_text-clause-refused c =
 
 pub returns-then-not-branch-clause-refused : goal.returns-then-not-branch-clause-refused
 returns-then-not-branch-clause-refused c =
-    sloppy c.args.source.now c.args.strict c.in_ok-is_strict.field-0 c.in_ok-functions.functions c.in_ok-check_text.ensures.text c.in_ok-functions.ensures
+    sloppy c.args.source.now c.args.strict c.in_ok-is_strict.field-0 c.in_ok-functions.functions
+    c.in_ok-check_text.ensures.text c.in_ok-functions.ensures
     c.in_ok-is_strict.ensures c.if-not-branch.true
 
 pub new-requires-clause-accepted : goal.new-requires-clause-accepted
 new-requires-clause-accepted c =
-    accepts c.args.source.now c.args.strict c.in_ok-is_strict.field-0 c.in_ok-functions.functions c.in_ok-check_text.ensures.text c.in_ok-functions.ensures
+    accepts c.args.source.now c.args.strict c.in_ok-is_strict.field-0 c.in_ok-functions.functions
+    c.in_ok-check_text.ensures.text c.in_ok-functions.ensures
     c.in_ok-is_strict.ensures c.if-not-branch.false

@@ -5,7 +5,8 @@ use Rattle.hz_scan.proofs.names.is_among.Given as goal
 
 abbrev pub invariant-loop-words : goal.invariant-loop-words
 invariant-loop-words l =
-    list_any (λ reserved. bytes_eq reserved.now l.word) l.words ≡ list_any (λ reserved. bytes_eq reserved.now l.word) l.initial.words
+    list_any (λ reserved. bytes_eq reserved.now l.word) l.words
+    ≡ list_any (λ reserved. bytes_eq reserved.now l.word) l.initial.words
 
 abbrev pub decreases-loop-words : goal.decreases-loop-words
 decreases-loop-words l = length l.words

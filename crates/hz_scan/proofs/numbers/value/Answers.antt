@@ -7,12 +7,14 @@ pub loop-b-preserved : goal.loop-b-preserved
 loop-b-preserved c = elim c.if-b-ne95.branch [
   | then-b-ne95 w ↦ (
     rw (w.value-is, w.min-value.ensures, w.digit.ensures.value)
-        (goes_on 9007199254740992 c.args.radix c.loop-b.value _ c.loop-b.b-index c.args.digits.now c.requires c.loop-b-test.true w.if-b-ne95.true c.loop-b.invariant.0),
+        (goes_on 9007199254740992 c.args.radix c.loop-b.value _ c.loop-b.b-index c.args.digits.now c.requires
+        c.loop-b-test.true w.if-b-ne95.true c.loop-b.invariant.0),
     omega arith,
   )
   | else-b-ne95 w ↦ (
     rw w.value-is
-        (passes_on 9007199254740992 c.args.radix c.loop-b.value _ c.loop-b.b-index c.args.digits.now c.loop-b-test.true w.if-b-ne95.false c.loop-b.invariant.0),
+        (passes_on 9007199254740992 c.args.radix c.loop-b.value _ c.loop-b.b-index c.args.digits.now c.loop-b-test.true
+        w.if-b-ne95.false c.loop-b.invariant.0),
     omega arith,
   )
 ]

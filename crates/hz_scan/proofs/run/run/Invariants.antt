@@ -1,5 +1,5 @@
 use Rattle.std.proofs.Common.{◌≡◌, ◌+◌, length}
-use Rattle.hz_tree.specs.Text as spec
+use Rattle.hz_tree.specs.tokens.Text as spec
 use Rattle.hz_scan.proofs.run.run.Given as goal
 
 abbrev pub invariant-parts : goal.invariant-parts

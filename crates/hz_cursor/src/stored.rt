@@ -1,0 +1,17 @@
+use hz_tree::Class;
+
+/// A token without its text, as it is stored: in four bytes.
+#[derive(Clone, Copy, Debug)]
+pub struct Stored {
+    /// What the grammar asks of it.
+    pub class: Class,
+
+    /// Whether a line ends before it.
+    pub newline: bool,
+
+    /// How many bytes stand between it and the token before it, or 255 where that number is kept apart.
+    pub gap: u8,
+
+    /// How many bytes it has, or 255 where that number is kept apart.
+    pub len: u8,
+}

@@ -1,0 +1,134 @@
+-- What one step makes of the outcome.
+use Rattle.std.proofs.Common.{◌≡◌, suc, true, false, if◌then◌else◌, List, [], ◌∷◌, ◌++◌, Ok, Err, refl, ap, sym, ◌∙◌}
+use Rattle.std.proofs.Common.{subst}
+use Rattle.hz_tree.specs.declared.class.Class.{Class}
+use Rattle.hz_tree.specs.declared.nonterminal.Nonterminal.{Nonterminal}
+use Rattle.hz_tree.specs.declared.outside.BadKind.{BadKind}
+use Rattle.hz_tree.specs.declared.symbol.Symbol.{Symbol}
+use Rattle.hz_tree.specs.declared.symbol.Symbol.TheVariants as s
+use Rattle.hz_tree.specs.declared.tree.FunctionKind.{FunctionKind}
+use Rattle.hz_tree.specs.grammar.Classes.{fits}
+use Rattle.hz_tree.specs.trees.Drafts.{Draft, happens}
+use Rattle.hz_tree.specs.grammar.Table.{Step, pushes, fails, step}
+use Rattle.hz_tree.specs.grammar.Look.{Terminal, look, stuck}
+use Rattle.hz_tree.specs.reading.Reading.{Got, Stuck, takes, place_ahead, end_behind, Event, Opened, Counted, Closed}
+use Rattle.hz_tree.specs.sources.Refusals.{refusal_at}
+use Rattle.hz_tree.specs.reading.Stack.{Verdict, Through, At, Lost, ends, before, work}
+use Rattle.hz_laws.proofs.StackLaws.{ends_pushes, ends_fails, ends_take, ends_other, ends_no_token, ends_open}
+use Rattle.hz_laws.proofs.StackLaws.{ends_count, ends_close}
+use Rattle.hz_laws.proofs.TurnLaws.{work_pushes, work_take, work_open, work_count, work_close}
+use Rattle.hz_rows.specs.declared.stop.Stop.TheVariants as stop
+use Rattle.hz_rows.specs.Pushed.{Pushed}
+use Rattle.hz_preparse.specs.Outcome.{outcome, refused}
+use Rattle.hz_preparse.specs.declared.fault.PreFault.TheVariants.{Refused, Memory}
+use Rattle.hz_preparse.specs.Step.{Done, TakesToken, Expands, Goes, StepsPast}
+
+-- ---- tokens
+
+pub take_goes : (wanted : Class) (xs : List Symbol) (ts new : List Terminal) (x : Terminal) (d : Draft)
+    → takes wanted ts ≡ Got x new
+    → Goes (s.Take wanted ∷ xs) ts d xs new d
+take_goes wanted xs [] new x d h = cc
+take_goes wanted xs (y ∷ ts) new x d h =
+    elim (fits wanted y.class) as (λ b. fits wanted y.class ≡ b
+    → (if b then Got y ts else Stuck (stuck (look (y ∷ ts))) (y ∷ ts)) ≡ Got x new
+    → Goes (s.Take wanted ∷ xs) (y ∷ ts) d xs new d) [
+      | true ↦ λ f e. (let same : ts ≡ new = cc in record {
+        same = ap (outcome d) (ap (ends xs) (sym same) ∙ sym (ends_take wanted xs y ts f));
+        less = work_take wanted xs y ts f ∙ ap (λ us. suc (work xs us)) same;
+      })
+      | false ↦ λ f e. cc
+    ] refl h
+
+pub take_refuses : (wanted : Class) (xs : List Symbol) (ts : List Terminal) (cause : BadKind) (d : Draft)
+    → takes wanted ts ≡ Stuck cause ts
+    → outcome d (ends (s.Take wanted ∷ xs) ts) ≡ refused (refusal_at cause (place_ahead ts))
+take_refuses wanted xs [] cause d h = let e = ends_no_token wanted xs in ap (outcome d) (e ∙ ap (λ c. At c []) cc)
+take_refuses wanted xs (y ∷ ts) cause d h =
+    elim (fits wanted y.class) as (λ b. fits wanted y.class ≡ b
+    → (if b then Got y ts else Stuck (stuck (look (y ∷ ts))) (y ∷ ts)) ≡ Stuck cause (y ∷ ts)
+    → outcome d (ends (s.Take wanted ∷ xs) (y ∷ ts)) ≡ refused (refusal_at cause (place_ahead (y ∷ ts)))) [
+      | true ↦ λ f e. cc
+      | false ↦ λ f e. (let same : stuck (look (y ∷ ts)) ≡ cause = cc in
+          ap (outcome d) (ends_other wanted xs y ts f ∙ ap (λ c. At c (y ∷ ts)) same))
+    ] refl h
+
+-- ---- nonterminals
+
+pub read_goes : (m : Nonterminal) (right xs new : List Symbol) (ts : List Terminal) (d : Draft) → step m (look ts)
+    ≡ pushes right → new ≡ right ++ xs
+    → Goes (s.Read m ∷ xs) ts d new ts d
+read_goes m right xs new ts d h e = record {
+  same = ap (outcome d) (ap (λ ys. ends ys ts) e ∙ sym (ends_pushes m right xs ts h));
+  less = work_pushes m right xs ts h ∙ ap (λ ys. suc (work ys ts)) (sym e);
+}
+
+pub read_refuses : (m : Nonterminal) (cause : BadKind) (xs : List Symbol) (ts : List Terminal) (d : Draft)
+    → step m (look ts) ≡ fails cause
+    → outcome d (ends (s.Read m ∷ xs) ts) ≡ refused (refusal_at cause (place_ahead ts))
+read_refuses m cause xs ts d h = ap (outcome d) (ends_fails m cause xs ts h)
+
+-- ---- events
+
+happened : (d : Draft) (event : Event) (v : Verdict) → outcome d (before (event ∷ []) v) ≡ outcome (happens d event) v
+happened d event (Through more rest) = refl
+happened d event (At cause ts) = refl
+happened d event Lost = refl
+
+pub open_goes : (kind : FunctionKind) (xs : List Symbol) (ts : List Terminal) (d new : Draft) → new
+    ≡ happens d (Opened kind (place_ahead ts))
+    → Goes (s.Open kind ∷ xs) ts d xs ts new
+open_goes kind xs ts d new h = record {
+  same = ap (λ e. outcome e (ends xs ts)) h ∙ sym (ap (outcome d) (ends_open kind xs ts)
+      ∙ happened d (Opened kind (place_ahead ts)) (ends xs ts));
+  less = work_open kind xs ts;
+}
+
+pub count_goes : (xs : List Symbol) (ts : List Terminal) (d new : Draft) → new ≡ happens d Counted
+    → Goes (s.Count ∷ xs) ts d xs ts new
+count_goes xs ts d new h = record {
+  same = ap (λ e. outcome e (ends xs ts)) h ∙ sym (ap (outcome d) (ends_count xs ts) ∙ happened d Counted (ends xs ts));
+  less = work_count xs ts;
+}
+
+pub close_goes : (xs : List Symbol) (ts : List Terminal) (d new : Draft) → new ≡ happens d (Closed (end_behind ts))
+    → Goes (s.Close ∷ xs) ts d xs ts new
+close_goes xs ts d new h = record {
+  same = ap (λ e. outcome e (ends xs ts)) h ∙ sym (ap (outcome d) (ends_close xs ts)
+      ∙ happened d (Closed (end_behind ts)) (ends xs ts));
+  less = work_close xs ts;
+}
+
+-- ---- expanding
+
+pub pushed_ok : (st : Step) (done : Unit {0}) (old new : List Symbol) → Pushed st (Ok done) old new
+    → (right : List Symbol) × ((st ≡ pushes right) × (new ≡ right ++ old))
+pushed_ok (pushes right) done old new h = (right, (refl, h))
+pushed_ok (fails cause) done old new h = absurd h
+
+pub pushed_refused : (st : Step) (found : BadKind) (old new : List Symbol)
+    → Pushed st (Err (stop.Refused found)) old new → st ≡ fails found
+pushed_refused (pushes right) found old new h = absurd h
+pushed_refused (fails cause) found old new h = ap fails (sym h.0)
+
+-- ---- steps
+
+pub take_steps : (symbol : Symbol) (wanted : Class) (r : Done) (xs : List Symbol) (ts new : List Terminal) (d : Draft)
+    → symbol ≡ s.Take wanted
+    → TakesToken wanted ts r new → StepsPast symbol xs ts d r xs new d
+take_steps symbol wanted r xs ts new d e h = subst (λ x. StepsPast x xs ts d r xs new d) (sym e) (go r h)
+  where
+    go : (r : Done) → TakesToken wanted ts r new → StepsPast (s.Take wanted) xs ts d r xs new d
+    go (Ok done) h = take_goes wanted xs ts new h.0 d h.1
+    go (Err (Refused refusal)) h = take_refuses wanted xs ts h.0 d h.1.0 ∙ ap refused (sym h.1.1)
+    go (Err Memory) h = tt
+
+pub read_steps : (symbol : Symbol) (m : Nonterminal) (r : Done) (xs new : List Symbol) (ts : List Terminal) (d : Draft)
+    → symbol ≡ s.Read m
+    → Expands m ts xs r new → StepsPast symbol xs ts d r new ts d
+read_steps symbol m r xs new ts d e h = subst (λ x. StepsPast x xs ts d r new ts d) (sym e) (go r h)
+  where
+    go : (r : Done) → Expands m ts xs r new → StepsPast (s.Read m) xs ts d r new ts d
+    go (Ok done) h = read_goes m h.0 xs new ts d h.1.0 h.1.1
+    go (Err (Refused refusal)) h = read_refuses m h.0 xs ts d h.1.0 ∙ ap refused (sym h.1.1)
+    go (Err Memory) h = tt
