@@ -1,8 +1,6 @@
-pub mod Ascii
-pub mod Compiling
-pub mod Finished
+pub mod Fronts
+pub mod Outputs
 pub mod Refused
 pub mod Sources
-pub mod generating
-pub mod reading
-pub mod running
+pub mod Streams
+pub mod first_texts

@@ -6,9 +6,9 @@ use Rattle.hz_tree.specs.declared.refusal.Refusal.{Refusal}
 use Rattle.hz_tree.specs.declared.refusal.Refusal.TheVariants as refusal
 use Rattle.hz_tree.specs.declared.nonterminal.Nonterminal.TheVariants as n
 use Rattle.hz_tree.specs.declared.tree.Tree.{Tree}
-use Rattle.hz_tree.specs.Look.{terminals}
-use Rattle.hz_tree.specs.Reading.{Reading, Got, Stuck, Deeper, reads}
-use Rattle.hz_tree.specs.Refusals.{refusal_at, refusal_by, refusal_of}
+use Rattle.hz_tree.specs.grammar.Look.{terminals}
+use Rattle.hz_tree.specs.reading.Reading.{Reading, Got, Stuck, Deeper, reads}
+use Rattle.hz_tree.specs.sources.Refusals.{refusal_at, refusal_by, refusal_of}
 use Rattle.hermes.specs.Outcomes.{IsRefusedFor}
 
 sloppy_or_none : (b : Bool) (at : ℕ) → (if b then None else Some refusal.Sloppy) ≡ Some (refusal.NotYet at) → ⊥
@@ -25,17 +25,20 @@ by_reading strict (Stuck cause ts) at e = stuck_at cause _ at e
 by_reading strict Deeper at e = cc
 
 by_text : (long broken : Bool) (r : Option Refusal) (place at : ℕ) → (r ≡ Some (refusal.NotYet at) → ⊥)
-    → (if long then Some refusal.TooLong else (if broken then Some (refusal.NotUtf8 place) else r)) ≡ Some (refusal.NotYet at) → ⊥
+    → (if long then Some refusal.TooLong else (if broken then Some (refusal.NotUtf8 place) else r))
+    ≡ Some (refusal.NotYet at) → ⊥
 by_text true broken r place at h e = cc
 by_text false true r place at h e = cc
 by_text false false r place at h e = h e
 
 never : (strict : Bool) (source : List ℕ) (at : ℕ) → refusal_of source strict ≡ Some (refusal.NotYet at) → ⊥
 unfolding refusal_of
-never strict source at e = by_text _ _ (refusal_by strict (reads n.Script (terminals source))) _ at (by_reading strict (reads n.Script (terminals source)) at) e
+never strict source at e = by_text _ _ (refusal_by strict (reads n.Script (terminals source))) _ at
+    (by_reading strict (reads n.Script (terminals source)) at) e
 
 -- a refusal of the language is one of the source
-pub by_language : (strict : Bool) (source : List ℕ) (why : Refusal) → refusal_of source strict ≡ Some why → IsRefusedFor strict source why
+pub by_language : (strict : Bool) (source : List ℕ) (why : Refusal) → refusal_of source strict ≡ Some why
+    → IsRefusedFor strict source why
 by_language strict source refusal.TooLong e = e
 by_language strict source (refusal.NotUtf8 at) e = e
 by_language strict source (refusal.Syntax at) e = e

@@ -13,4 +13,5 @@ WriteCause status before now = now ≡ before
 
 -- all of the line went out, or a front of it where the count of faults went up
 abbrev pub GetsLine : Option (List ℕ) → Option (List ℕ) → ℕ → ℕ → List ℕ → Type 0
-GetsLine old new before now line = (Appends old new line × (now ≡ before)) ⊎ (AppendsPrefix old new line × Rose before now)
+GetsLine old new before now line =
+    (Appends old new line × (now ≡ before)) ⊎ (AppendsPrefix old new line × Rose before now)

@@ -1,14 +1,8 @@
-pub mod Compiled
 pub mod Effects
 pub mod FileCode
-pub mod FirstRun
-pub mod FirstSteps
-pub mod FirstTexts
-pub mod Generated
+pub mod Fronts
 pub mod Outcomes
 pub mod Printing
-pub mod Reading
-pub mod Saying
-pub mod Scripts
 pub mod Statuses
 pub mod Words
+pub mod first

@@ -1,6 +1,6 @@
 -- The table of statuses: the code that the process ends with, and the line on standard error.
 use Rattle.std.specs.Prelude.{ℕ, List, [], ◌∷◌, ◌++◌, codes, decimal}
-use Rattle.hz_tree.specs.Shown.{text_of_refusal}
+use Rattle.hz_tree.specs.sources.Shown.{text_of_refusal}
 use Rattle.hz_value.specs.Leaving.{name_of_left}
 use Rattle.hermes.specs.declared.status.Status.{Status}
 use Rattle.hermes.specs.declared.status.Status.TheVariants.{Done, Usage, Refused, Left, ReadFault, WriteFault, Memory}

@@ -1,8 +1,12 @@
 // The files, the input and the outputs of the system. Each loops over the system's calls and counts its
-// faults. They tell nothing of what a file or a stream holds. A call that was interrupted is made again.
+// faults. A stream tells the bytes that the stream below it tells; the system's own tell none, and of files
+// nothing is told. A call that was interrupted is made again.
 
-ghost use Rattle.std.specs.Prelude.{◌≡◌, ◌+◌, ◌≤◌, ◌<◌, length, None, IfOk};
-ghost use Rattle.std.specs.Io.{ReadsAtMost};
+ghost use Rattle.std.specs.Prelude.{◌≡◌, ◌+◌, ◌≤◌, ◌<◌, length, None, [], false, IfOk, OnOk, MatchResult};
+ghost use Rattle.std.specs.Io.{ReadsAtMost, WritesAtMost};
+ghost use Rattle.std.specs.Io.KnownBytes.{Appends, Keeps, ReadConsumes, WriteAppends};
+ghost use Rattle.hermes.specs.Printing.{AppendsPrefix};
+ghost use Rattle.hermes.specs.Fronts.{IsFront, ReadsPiece};
 
 use hz_io::{Failed, FileFault, Files, Sink, Source};
 use std::alloc::Global;
@@ -79,14 +83,15 @@ pub struct Reading<R: Read> {
 
 impl<R: Read> Reading<R> {
     pub fn new(stream: R) -> Self
-        ensures { result.faults ≡ 0 }
+        ensures stream { result.stream ≡ stream }
+        ensures faults { result.faults ≡ 0 }
     {
         Reading { stream, faults: 0 }
     }
 }
 
 impl<R: Read> Source for Reading<R> {
-    ghost left = { λ _. None };
+    ghost left = { λ s. R.remaining s.stream };
 
     ghost count = { λ s. s.faults };
 
@@ -109,19 +114,28 @@ impl<R: Read> Source for Reading<R> {
 #[derive(Drop)]
 pub struct Writing<W: Write> {
     stream: W,
+    puts: u64,
     faults: u64,
 }
 
 impl<W: Write> Writing<W> {
     pub fn new(stream: W) -> Self
-        ensures { result.faults ≡ 0 }
+        ensures stream { result.stream ≡ stream }
+        ensures puts { result.puts ≡ 0 }
+        ensures faults { result.faults ≡ 0 }
     {
-        Writing { stream, faults: 0 }
+        Writing {
+            stream,
+            puts: 0,
+            faults: 0,
+        }
     }
 }
 
 impl<W: Write> Sink for Writing<W> {
-    ghost got = { λ _. None };
+    ghost use Rattle.std.specs.Prelude.{Some};
+
+    ghost told = { λ s. record { got = W.contents s.stream; puts = Some s.puts } };
 
     ghost count = { λ s. s.faults };
 
@@ -130,6 +144,7 @@ impl<W: Write> Sink for Writing<W> {
     }
 
     fn put(&mut self, bytes: &[u8]) -> Result<(), Failed> {
+        self.puts = self.puts.saturating_add(1);
         match write_all(&mut self.stream, bytes) {
             Ok(()) => Ok(()),
             Err(Failed) => {
@@ -150,30 +165,55 @@ fn read_file<R: System>(rt: &R, alloc: Global, name: &str, max: u64) -> Result<V
     }
 }
 
+// The same of what the stream has left.
+#[tactic(auto, using(crate::proofs::Fronts::consumes_nothing, crate::proofs::Fronts::consumes_more, crate::proofs::Fronts::front_behind))]
 fn read_front<R: Read>(stream: &mut R, alloc: Global, max: u64) -> Result<Vec<u8>, FileFault>
-    ensures { IfOk result (λ bytes. length bytes.items ≤ max + 1) }
+    ensures length { IfOk result (λ bytes. length bytes.items ≤ max + 1) }
+    ensures bytes { IfOk result
+        (λ bytes. IsFront [] (R.remaining stream.old) (max + 1) bytes.items) }
 {
     let mut bytes = Vec::new(alloc);
-    let mut piece = [0u8; PIECE];
     for _ in 0..u64::MAX {
-        let Ok(n) = read_some(stream, &mut piece) else {
-            return Err(FileFault::Failed);
-        };
-        let room = (max - bytes.len() as u64).saturating_add(1);
-        let taken = (n as u64).min(room) as usize;
-        if bytes.extend_from_slice(&piece[..taken]).is_err() {
-            return Err(FileFault::Memory);
-        }
-        if n == 0 || bytes.len() as u64 > max {
+        if read_piece(stream, &mut bytes, max)? {
             return Ok(bytes);
         }
     }
     Err(FileFault::Failed)
 }
 
+// Reads a piece behind the bytes, but for what is more than `max + 1` of all. Whether it is the last.
+#[tactic(auto, using(crate::proofs::Fronts::front_at_end, crate::proofs::Fronts::front_cut))]
+fn read_piece<R: Read>(stream: &mut R, bytes: &mut Vec<u8>, max: u64) -> Result<bool, FileFault>
+    requires { length bytes.old.items ≤ max }
+    ensures length { OnOk result (length bytes.new.items ≤ max + 1) }
+    ensures going { result ≡ Ok false → length bytes.new.items ≤ max }
+    ensures piece { IfOk result
+        (λ last. ReadsPiece bytes.old.items bytes.new.items (R.remaining stream.old)
+        (R.remaining stream.new) (max + 1) last) }
+{
+    let mut piece = [0u8; PIECE];
+    let Ok(n) = read_some(stream, &mut piece) else {
+        return Err(FileFault::Failed);
+    };
+    if n == 0 {
+        return Ok(true);
+    }
+    let room = (max - bytes.len() as u64).saturating_add(1);
+    let taken = (n as u64).min(room) as usize;
+    if bytes.extend_from_slice(&piece[..taken]).is_err() {
+        return Err(FileFault::Memory);
+    }
+    if bytes.len() as u64 > max {
+        return Ok(true);
+    }
+    Ok(false)
+}
+
 // One read that was not interrupted.
+#[tactic(auto, using(crate::proofs::Streams::keeps_more, crate::proofs::Streams::reads_kept))]
 fn read_some<R: Read>(stream: &mut R, buf: &mut [u8]) -> Result<usize, Failed>
-    ensures { ReadsAtMost result buf.new }
+    ensures bound { ReadsAtMost result buf.new }
+    ensures bytes { ReadConsumes (R.remaining stream.old) (R.remaining stream.new) result buf.new }
 {
     for _ in 0..u64::MAX {
         match stream.read(buf) {
@@ -195,16 +235,15 @@ fn write_file<R: System>(rt: &R, name: &str, bytes: &[u8]) -> Result<(), Failed>
     }
 }
 
-// Writes all of the bytes, and hands them on to the system. A write that takes nothing is a fault.
-fn write_all<W: Write>(stream: &mut W, bytes: &[u8]) -> Result<(), Failed> {
-    let mut at = 0;
+// One write that was not interrupted.
+#[tactic(auto, using(crate::proofs::Streams::keeps_more, crate::proofs::Streams::writes_kept))]
+fn write_some<W: Write>(stream: &mut W, bytes: &[u8]) -> Result<usize, Failed>
+    ensures bound { WritesAtMost result bytes.now }
+    ensures bytes { WriteAppends (W.contents stream.old) (W.contents stream.new) result bytes.now }
+{
     for _ in 0..u64::MAX {
-        if at == bytes.len() {
-            return flush(stream);
-        }
-        match stream.write(&bytes[at..]) {
-            Ok(0) => return Err(Failed),
-            Ok(n) => at += n,
+        match stream.write(bytes) {
+            Ok(n) => return Ok(n),
             Err(error) => {
                 if error.kind() != ErrorKind::Interrupted {
                     return Err(Failed);
@@ -215,7 +254,30 @@ fn write_all<W: Write>(stream: &mut W, bytes: &[u8]) -> Result<(), Failed> {
     Err(Failed)
 }
 
-fn flush<W: Write>(stream: &mut W) -> Result<(), Failed> {
+// Writes all of the bytes, and hands them on to the system. A write that takes nothing is a fault.
+#[tactic(auto, using(crate::proofs::Streams::appends_at, crate::proofs::Streams::appends_kept))]
+fn write_all<W: Write>(stream: &mut W, bytes: &[u8]) -> Result<(), Failed>
+    ensures { MatchResult result
+        (λ _. Appends (W.contents stream.old) (W.contents stream.new) bytes.now)
+        (λ _. AppendsPrefix (W.contents stream.old) (W.contents stream.new) bytes.now) }
+{
+    let mut at = 0;
+    for _ in 0..u64::MAX {
+        if at == bytes.len() {
+            return flush(stream);
+        }
+        let n = write_some(stream, &bytes[at..])?;
+        if n == 0 {
+            return Err(Failed);
+        }
+        at += n;
+    }
+    Err(Failed)
+}
+
+fn flush<W: Write>(stream: &mut W) -> Result<(), Failed>
+    ensures { Keeps (W.contents stream.old) (W.contents stream.new) }
+{
     match stream.flush() {
         Ok(()) => Ok(()),
         Err(_) => Err(Failed),

@@ -8,5 +8,3 @@ pub mod run;
 mod state;
 mod steps;
 mod sums;
-#[cfg(test)]
-mod tests;

@@ -4,27 +4,29 @@
 // contract says how each call ends, what it prints, and when it may answer a fault.
 #![tactic(auto)]
 
-ghost use Rattle.std.specs.Prelude.{◌≡◌, ◌<◌, [], IfOk, IsUtf8, string_bytes};
+ghost use Rattle.std.specs.Prelude.{◌≡◌, ◌<◌, ℕ, List, [], IfOk, IsUtf8, Some, None, map, string_bytes};
+ghost use Rattle.hz_io.specs.Causes.{Rose};
+ghost use Rattle.hermes.specs.Effects.{WriteCause, GetsLine};
+ghost use Rattle.hermes.specs.Outcomes.{OutcomeOf};
+ghost use Rattle.hermes.specs.Statuses.{line_of};
+ghost use Rattle.hermes.specs.Words.{usage_fault, file_of, strict_of};
 
 mod disk;
 mod first;
 mod source;
 mod status;
-mod steps;
-#[cfg(test)]
-mod tests;
 mod top;
 mod words;
 
 use disk::{DiskFiles, Reading, Writing};
 use hz_io::{Files, Sink, Source};
+use hz_value::Steps;
 use status::Status;
 use std::alloc::{AllocError, Global};
 use std::env::{Env, FillError};
 use std::marker::Brand;
 use std::process::ExitCode;
 use std::sync::ledger::{Blank, Ledger};
-use steps::Steps;
 
 fn main(rt: HostRuntime) -> ExitCode {
     ExitCode::from(run_program(&rt).code())
@@ -78,7 +80,7 @@ fn word_of(alloc: Global, bytes: &[u8]) -> Result<String, AllocError>
     }
 }
 
-// The command, with a count of steps that nobody reads.
+// The command, with a count of steps that nobody reads. But for the steps it promises what `top::hermes` does.
 fn uncounted<F: Files, S: Source, K: Sink, E: Sink, L: Ledger>(
     alloc: Global,
     words: &[String],
@@ -91,6 +93,30 @@ fn uncounted<F: Files, S: Source, K: Sink, E: Sink, L: Ledger>(
     requires name { blank.name ≡ L.name }
     requires parts { blank.parts ≡ L.parts }
     requires some { 0 < blank.parts }
+
+    // Words that are no command are answered so, and nothing but err is touched.
+    ensures usage { (word : ℕ) → usage_fault (map string_bytes words.now) ≡ Some word
+        → (result ≡ Status.Usage word) × (files.new ≡ files.old) × (out.new ≡ out.old) }
+
+    // Words that are a command: the status, and what went out.
+    ensures outcome { usage_fault (map string_bytes words.now) ≡ None
+        → OutcomeOf (F.held files.old) (file_of (map string_bytes words.now))
+        (strict_of (map string_bytes words.now)) result (K.told out.old) (K.told out.new) }
+
+    // A fault of reading is one of this file in this call, and one of writing is one of out in this call.
+    ensures read_fault { result ≡ Status.ReadFault
+        → Rose (F.read_count files.old (file_of (map string_bytes words.now)))
+        (F.read_count files.new (file_of (map string_bytes words.now))) }
+    ensures write_fault { WriteCause result (K.count out.old) (K.count out.new) }
+
+    // Standard error gets the line of the status, or a front of it after a fault of its own.
+    ensures line { GetsLine (E.told err.old).got (E.told err.new).got (E.count err.old) (E.count err.new)
+        (line_of result) }
+
+    // No file changes, and neither does the input.
+    ensures held { F.held files.new ≡ F.held files.old }
+    ensures writes { (name : List ℕ) → F.write_count files.new name ≡ F.write_count files.old name }
+    ensures input { input.new ≡ input.old }
 {
     let mut steps: Steps<L> = Steps::new(blank);
     top::hermes(alloc, words, files, input, out, err, &mut steps)

@@ -4,10 +4,10 @@ ghost use Rattle.std.specs.Prelude.{◌≡◌, ℕ, List, None};
 ghost use Rattle.hz_file.specs.Layout.{HasMagic};
 ghost use Rattle.hz_file.specs.Opening.{rule};
 ghost use Rattle.hz_ops.specs.Runs.{End, start_of, Ends, IsBuilt};
-ghost use Rattle.hz_tree.specs.Refusals.{refusal_of};
-ghost use Rattle.hermes.specs.Compiled.{Compiles, code_in};
+ghost use Rattle.hz_tree.specs.sources.Refusals.{refusal_of};
+ghost use Rattle.hermes.specs.first.Compiled.{Compiles, code_in};
 ghost use Rattle.hermes.specs.Effects.{WriteCause};
-ghost use Rattle.hermes.specs.FirstRun.{Agrees, Counts};
+ghost use Rattle.hermes.specs.first.Runs.{Agrees, Counts};
 ghost use Rattle.hermes.specs.Outcomes.{Outcome};
 
 use crate::first::compile::compile_first;
@@ -21,9 +21,9 @@ use hz_tree::Refusal;
 use std::alloc::Global;
 
 /// Refuses the source, or compiles it to the bytes of a file with this flag, opens that file, and runs it.
-#[tactic(auto, using(crate::proofs::Refused::by_language))]
+#[tactic(auto, using(crate::proofs::Refused::by_language, crate::proofs::Outputs::prints_nothing))]
 pub fn run_source<K: Sink>(alloc: Global, strict: bool, source: &[u8], out: &mut K) -> Status
-    ensures outcome { Outcome result strict source.now (K.got out.old) (K.got out.new) }
+    ensures outcome { Outcome result strict source.now (K.told out.old) (K.told out.new) }
     ensures read { result ≡ Status.ReadFault → ⊥ }
     ensures cause { WriteCause result (K.count out.old) (K.count out.new) }
 {
@@ -35,9 +35,10 @@ pub fn run_source<K: Sink>(alloc: Global, strict: bool, source: &[u8], out: &mut
 }
 
 // Compiles a source that is not refused, and runs it.
+#[tactic(auto, using(crate::proofs::Outputs::prints_nothing))]
 fn run_read<K: Sink>(alloc: Global, strict: bool, source: &[u8], out: &mut K) -> Status
     requires { refusal_of source.now strict ≡ None }
-    ensures outcome { Outcome result strict source.now (K.got out.old) (K.got out.new) }
+    ensures outcome { Outcome result strict source.now (K.told out.old) (K.told out.new) }
     ensures read { result ≡ Status.ReadFault → ⊥ }
     ensures cause { WriteCause result (K.count out.old) (K.count out.new) }
 {
@@ -58,11 +59,11 @@ fn run_compiled<K: Sink>(
 ) -> Status
     requires read { refusal_of _source.now _strict ≡ None }
     requires compiled { Compiles _strict _source.now bytes.now }
-    ensures outcome { Outcome result _strict _source.now (K.got out.old) (K.got out.new) }
+    ensures outcome { Outcome result _strict _source.now (K.told out.old) (K.told out.new) }
     ensures read { result ≡ Status.ReadFault → ⊥ }
     ensures cause { WriteCause result (K.count out.old) (K.count out.new) }
 {
-    match run_file(alloc, bytes, out) {
+    match run_opened(alloc, bytes, out) {
         FirstEnd::Done => Status::Done,
         FirstEnd::Left(reason) => Status::Left(reason),
         FirstEnd::BadCode => unreachable!(),
@@ -72,13 +73,13 @@ fn run_compiled<K: Sink>(
 }
 
 // Opens a file that breaks no rule, and runs its code.
-fn run_file<K: Sink>(alloc: Global, bytes: &[u8], out: &mut K) -> FirstEnd
+fn run_opened<K: Sink>(alloc: Global, bytes: &[u8], out: &mut K) -> FirstEnd
     requires magic { HasMagic bytes.now }
     requires opens { rule bytes.now ≡ None }
     requires built { IsBuilt (code_in bytes.now) (start_of (code_in bytes.now)) }
     ensures agrees { (lines : List (List ℕ)) (end : End)
         → Ends (code_in bytes.now) (start_of (code_in bytes.now)) lines end
-        → Agrees lines end (K.got out.old) (K.got out.new) result }
+        → Agrees lines end (K.told out.old) (K.told out.new) result }
     ensures cause { Counts (K.count out.old) (K.count out.new) result }
 {
     match File::open(bytes) {

@@ -1,7 +1,7 @@
 // How a call of the command ends: its status, the code that the process ends with, and the line on standard error.
 
 ghost use Rattle.std.specs.Prelude.{◌≡◌, ◌+◌, ◌≤◌, [], ◌∷◌, ◌++◌, codes, decimal, length};
-ghost use Rattle.hz_tree.specs.Shown.{name_of_kind, text_of_refusal};
+ghost use Rattle.hz_tree.specs.sources.Shown.{name_of_kind, text_of_refusal};
 ghost use Rattle.hermes.specs.Statuses.{code_of, line_of};
 
 use arrayvec::ArrayVec;
@@ -61,10 +61,10 @@ impl Status {
             Status::Done => ArrayVec::new(),
             Status::Usage(word) => numbered(b"usage error at word ", *word),
             Status::Refused(refusal) => refused(*refusal),
-            Status::Left(reason) => joined(b"left: ", reason.name().as_bytes()),
-            Status::ReadFault => joined(b"read ", b"fault"),
-            Status::WriteFault => joined(b"write ", b"fault"),
-            Status::Memory => joined(b"out of ", b"memory"),
+            Status::Left(reason) => sentence(b"left: ", reason.name().as_bytes()),
+            Status::ReadFault => sentence(b"read ", b"fault"),
+            Status::WriteFault => sentence(b"write ", b"fault"),
+            Status::Memory => sentence(b"out of ", b"memory"),
         }
     }
 }
@@ -74,11 +74,11 @@ fn refused(refusal: Refusal) -> Line
     ensures { result.items ≡ codes "refused: " ++ text_of_refusal refusal ++ 10 ∷ [] }
 {
     match refusal {
-        Refusal::TooLong => joined(b"refused: ", b"TooLong"),
+        Refusal::TooLong => sentence(b"refused: ", b"TooLong"),
         Refusal::NotUtf8(at) => numbered(b"refused: NotUtf8 at ", at),
         Refusal::Syntax(at) => numbered(b"refused: Syntax at ", at),
         Refusal::Outside(kind, at) => outside(kind, at),
-        Refusal::Sloppy => joined(b"refused: ", b"Sloppy"),
+        Refusal::Sloppy => sentence(b"refused: ", b"Sloppy"),
         Refusal::NotYet(at) => numbered(b"refused: NotYet at ", at),
     }
 }
@@ -103,11 +103,11 @@ fn numbered(words: &[u8], number: usize) -> Line
     ensures { result.items ≡ words.now ++ decimal number ++ 10 ∷ [] }
 {
     let mut digits = Buffer::new();
-    joined(words, digits.format(number).as_bytes())
+    sentence(words, digits.format(number).as_bytes())
 }
 
 // The words, and these bytes behind them.
-fn joined(words: &[u8], more: &[u8]) -> Line
+fn sentence(words: &[u8], more: &[u8]) -> Line
     requires words { length words.now ≤ 20 }
     requires more { length more.now ≤ 40 }
     ensures { result.items ≡ words.now ++ more.now ++ 10 ∷ [] }

@@ -9,14 +9,12 @@ ghost use Rattle.hermes.specs.Words.{usage_fault, file_of, strict_of};
 
 use crate::source::run_source;
 use crate::status::Status;
-use crate::steps::Steps;
 use crate::words::{Command, command_of};
 use hz_io::{FileFault, Files, Sink, Source};
+use hz_preparse::MAX_LENGTH;
+use hz_value::Steps;
 use std::alloc::Global;
 use std::sync::ledger::Ledger;
-
-/// The greatest length of a source that is read whole, in bytes.
-const MOST: u64 = 16_777_215;
 
 /// Does what the words command, and sends the line of the status to `err`.
 ///
@@ -30,7 +28,8 @@ const MOST: u64 = 16_777_215;
 /// - `Refused`: the file is no script of the language, or holds what is not built yet. `out` got nothing.
 /// - `ReadFault`: the file could not be read. `out` got nothing.
 /// - `WriteFault`: `out` failed in this call, and got a front of the script's lines.
-/// - `Memory`: memory ran out, and `out` got a front of the script's lines. This can come in the place of any but `Usage`.
+/// - `Memory`: memory ran out, and `out` got a front of the script's lines. This can come in the place of any but
+///   `Usage`.
 pub fn hermes<F: Files, S: Source, K: Sink, E: Sink, L: Ledger>(
     alloc: Global,
     words: &[String],
@@ -47,7 +46,7 @@ pub fn hermes<F: Files, S: Source, K: Sink, E: Sink, L: Ledger>(
     // Words that are a command: the status, and what went out.
     ensures outcome { usage_fault (map string_bytes words.now) ≡ None
         → OutcomeOf (F.held files.old) (file_of (map string_bytes words.now))
-        (strict_of (map string_bytes words.now)) result (K.got out.old) (K.got out.new) }
+        (strict_of (map string_bytes words.now)) result (K.told out.old) (K.told out.new) }
 
     // A fault of reading is one of this file in this call, and one of writing is one of out in this call.
     ensures read_fault { result ≡ Status.ReadFault
@@ -56,7 +55,7 @@ pub fn hermes<F: Files, S: Source, K: Sink, E: Sink, L: Ledger>(
     ensures write_fault { WriteCause result (K.count out.old) (K.count out.new) }
 
     // Standard error gets the line of the status, or a front of it after a fault of its own.
-    ensures line { GetsLine (E.got err.old) (E.got err.new) (E.count err.old) (E.count err.new)
+    ensures line { GetsLine (E.told err.old).got (E.told err.new).got (E.count err.old) (E.count err.new)
         (line_of result) }
 
     // No file changes, and neither do the input and the count of steps.
@@ -81,7 +80,7 @@ fn run_words<F: Files, K: Sink>(
         → (result ≡ Status.Usage word) × (files.new ≡ files.old) × (out.new ≡ out.old) }
     ensures outcome { usage_fault (map string_bytes words.now) ≡ None
         → OutcomeOf (F.held files.old) (file_of (map string_bytes words.now))
-        (strict_of (map string_bytes words.now)) result (K.got out.old) (K.got out.new) }
+        (strict_of (map string_bytes words.now)) result (K.told out.old) (K.told out.new) }
     ensures read_fault { result ≡ Status.ReadFault
         → Rose (F.read_count files.old (file_of (map string_bytes words.now)))
         (F.read_count files.new (file_of (map string_bytes words.now))) }
@@ -90,29 +89,29 @@ fn run_words<F: Files, K: Sink>(
     ensures writes { (name : List ℕ) → F.write_count files.new name ≡ F.write_count files.old name }
 {
     match command_of(words) {
-        Ok(Command { strict, file }) => run_file(alloc, strict, file, files, out),
+        Ok(Command { strict, file }) => read_and_run(alloc, strict, file, files, out),
         Err(word) => Status::Usage(word),
     }
 }
 
 // Reads the file and runs it.
-#[tactic(auto, using(crate::proofs::Sources::read_whole, crate::proofs::Sources::unread))]
-fn run_file<F: Files, K: Sink>(
+#[tactic(auto, using(crate::proofs::Sources::read_whole, crate::proofs::Sources::unread, crate::proofs::Outputs::prints_nothing))]
+fn read_and_run<F: Files, K: Sink>(
     alloc: Global,
     strict: bool,
     name: &str,
     files: &mut F,
     out: &mut K,
 ) -> Status
-    ensures outcome { OutcomeOf (F.held files.old) name.now strict result (K.got out.old)
-        (K.got out.new) }
+    ensures outcome { OutcomeOf (F.held files.old) name.now strict result (K.told out.old)
+        (K.told out.new) }
     ensures read_fault { result ≡ Status.ReadFault
         → Rose (F.read_count files.old name.now) (F.read_count files.new name.now) }
     ensures write_fault { WriteCause result (K.count out.old) (K.count out.new) }
     ensures held { F.held files.new ≡ F.held files.old }
     ensures writes { (q : List ℕ) → F.write_count files.new q ≡ F.write_count files.old q }
 {
-    match files.read(alloc, name, MOST) {
+    match files.read(alloc, name, MAX_LENGTH as u64) {
         Ok(source) => run_source(alloc, strict, source.as_slice(), out),
         Err(FileFault::Failed) => Status::ReadFault,
         Err(FileFault::Memory) => Status::Memory,
@@ -121,7 +120,7 @@ fn run_file<F: Files, K: Sink>(
 
 /// Sends the line of the status, where it has one. After a fault a front of it was sent.
 pub fn tell<E: Sink>(status: Status, err: &mut E)
-    ensures line { GetsLine (E.got err.old) (E.got err.new) (E.count err.old) (E.count err.new)
+    ensures line { GetsLine (E.told err.old).got (E.told err.new).got (E.count err.old) (E.count err.new)
         (line_of status) }
 {
     let line = status.line();

@@ -1,7 +1,8 @@
 // The words of the command line.
 
 ghost use Rattle.std.specs.Prelude.{◌≡◌, ◌≤◌, MatchResult, Some, None, true, false, map, string_bytes};
-ghost use Rattle.hermes.specs.Words.{is_run, is_dashes, is_plain_name, is_file_part, begins_file_part, has_option, behind_option, name_of, stop_of, usage_fault, file_of, strict_of};
+ghost use Rattle.hermes.specs.Words.{is_run, is_dashes, is_plain_name, is_file_part, begins_file_part, has_option};
+ghost use Rattle.hermes.specs.Words.{behind_option, name_of, stop_of, usage_fault, file_of, strict_of};
 
 /// What the words command.
 #[derive(Clone, Copy, Debug, PartialEq, Eq)]

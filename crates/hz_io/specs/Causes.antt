@@ -24,6 +24,7 @@ Faulty (Err Failed) P Q = P
 Faulty (Err Memory) P Q = Q
 
 -- counts by name of a file: none falls, that of this name went up where the call failed, and else all stayed
-pub record HasFileCause {T : Type 0} (before now : List ℕ → ℕ) (name : List ℕ) (result : Result T FileFault) : Type 0 where
+pub record HasFileCause {T : Type 0} (before now : List ℕ → ℕ) (name : List ℕ) (result : Result T FileFault)
+    : Type 0 where
   pub later : (q : List ℕ) → before q ≤ now q
   pub cause : Faulty result (Rose (before name) (now name)) ((q : List ℕ) → now q ≡ before q)

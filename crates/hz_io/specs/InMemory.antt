@@ -1,9 +1,9 @@
 -- What contracts see of the files and streams in memory. Each numbers its calls from 0 and fails at chosen ones.
-use Rattle.std.specs.Prelude.{ℕ, List, map, Result, Ok, Err, String, Vec, string_bytes}
+use Rattle.std.specs.Prelude.{ℕ, List, map, Some, Result, Ok, Err, String, Vec, string_bytes}
 use Rattle.std.specs.Map.{lookup}
 use Rattle.std.specs.Str.{bytes_eq}
 use Rattle.hz_io.specs.Causes.{next}
-use Rattle.hz_io.specs.Contents.{Contents}
+use Rattle.hz_io.specs.Contents.{Contents, Told}
 use Rattle.hz_io.specs.declared.faults.FileFault.{FileFault}
 use Rattle.hz_io.specs.declared.faults.FileFault.TheVariants.{Failed, Memory}
 
@@ -23,6 +23,10 @@ pub record Receipt : Type 0 where
   pub calls : ℕ
   pub failing : List ℕ
   pub faults : ℕ
+
+-- it tells its bytes, and each call as a put
+abbrev pub told_of : Receipt → Told
+told_of receipt = record { got = Some receipt.got; puts = Some receipt.calls }
 
 -- each file's name and bytes, and the same of calls and faults; reads and writes are numbered together
 pub record Folder : Type 0 where

@@ -16,6 +16,3 @@ pub use mem_files::MemFiles;
 pub use mem_sink::MemSink;
 pub use mem_source::MemSource;
 pub use traits::{Files, Sink, Source};
-
-#[cfg(test)]
-mod tests;

@@ -17,6 +17,7 @@ ghost use Rattle.std.specs.Prelude.{
 };
 ghost use Rattle.hz_io.specs.Causes.{HasCause, next};
 ghost use Rattle.hz_io.specs.Contents.{Puts};
+ghost use Rattle.hz_io.specs.InMemory.{told_of};
 
 use crate::faults::Failed;
 use crate::traits::Sink;
@@ -86,7 +87,7 @@ impl MemSink {
 }
 
 impl Sink for MemSink {
-    ghost got = { λ s. Some s.got };
+    ghost told = { told_of };
 
     ghost count = { λ s. s.faults };
 
@@ -95,7 +96,7 @@ impl Sink for MemSink {
     }
 
     fn put(&mut self, bytes: &[u8]) -> Result<(), Failed>
-        ensures bytes { Puts (Some self.old.got) (Some self.new.got) bytes.now result }
+        ensures bytes { Puts (told_of self.old) (told_of self.new) bytes.now result }
         ensures cause { HasCause self.old.faults self.new.faults result }
 
         // the exact answer and what follows it

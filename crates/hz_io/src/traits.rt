@@ -2,7 +2,7 @@ ghost use Rattle.std.specs.Prelude.{◌≡◌, ◌+◌, ◌<◌, ◌≤◌, ℕ,
 ghost use Rattle.std.specs.Io.{ReadsAtMost};
 ghost use Rattle.std.specs.Io.KnownBytes.{ReadConsumes};
 ghost use Rattle.hz_io.specs.Causes.{HasCause, HasFileCause};
-ghost use Rattle.hz_io.specs.Contents.{Contents, ReadsFile, WritesFile, Puts};
+ghost use Rattle.hz_io.specs.Contents.{Contents, ReadsFile, WritesFile, Told, Puts};
 
 use crate::faults::{Failed, FileFault};
 use std::alloc::Global;
@@ -70,10 +70,10 @@ pub trait Source {
 
 /// A stream that gets bytes.
 ///
-/// `got` is what it has got, where the implementation tells it. The count of faults never falls, and stays
-/// at the last value of its type.
+/// `told` is what it has got, where the implementation tells it: the bytes, and how many calls of `put` there
+/// were, failed ones too. The count of faults never falls, and stays at the last value of its type.
 pub trait Sink {
-    ghost got: { Self → Option (List ℕ) };
+    ghost told: { Self → Told };
 
     ghost count: { Self → ℕ };
 
@@ -82,8 +82,8 @@ pub trait Sink {
         ensures { result ≡ count self.now };
 
     /// Sends the bytes. `Failed` comes only where the count of faults rose, and a front of the bytes was
-    /// sent then.
+    /// sent then. Either way this is one put more.
     fn put(&mut self, bytes: &[u8]) -> Result<(), Failed>
-        ensures bytes { Puts (got self.old) (got self.new) bytes.now result }
+        ensures bytes { Puts (told self.old) (told self.new) bytes.now result }
         ensures cause { HasCause (count self.old) (count self.new) result };
 }

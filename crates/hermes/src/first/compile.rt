@@ -1,7 +1,7 @@
 // Compiles a source to the bytes of a file.
 
 ghost use Rattle.std.specs.Prelude.{MatchResult};
-ghost use Rattle.hermes.specs.Compiled.{Compiles, FaultOf};
+ghost use Rattle.hermes.specs.first.Compiled.{Compiles, FaultOf};
 
 use crate::first::generate::generate;
 use crate::first::language::FirstFault;
@@ -18,7 +18,7 @@ pub const MAX_SOURCE: usize = 4095;
 ///
 /// `NotYet` comes exactly where the source is longer than 4,095 bytes, with the place 4095, or is no first text,
 /// with the length of its longest prefix that begins one. `Memory` comes where memory runs out.
-#[tactic(auto, using(crate::proofs::Ascii::first_below, crate::proofs::Compiling::compiled))]
+#[tactic(auto, using(crate::proofs::first_texts::Ascii::first_below, crate::proofs::first_texts::Compiling::compiled))]
 pub fn compile_first(alloc: Global, strict: bool, source: &[u8]) -> Result<Vec<u8>, FirstFault>
     ensures { MatchResult result (λ file. Compiles strict source.now file.items)
         (λ fault. FaultOf strict source.now fault) }

@@ -7,9 +7,9 @@ ghost use Rattle.std.specs.Prelude.{◌≤◌, ◌<◌, IsTrue, IfOk, length, Al
 ghost use Rattle.std.specs.List.{list_all, concat};
 ghost use Rattle.hz_file.specs.Image.{IsShortText};
 ghost use Rattle.hz_ops.specs.Runs.{start_of, Ends, IsBuilt};
-ghost use Rattle.hermes.specs.FirstTexts.{is_argument, weight};
-ghost use Rattle.hermes.specs.Saying.{lines_of, end_of};
-ghost use Rattle.hermes.specs.Scripts.{script};
+ghost use Rattle.hermes.specs.first.Texts.{is_argument, weight};
+ghost use Rattle.hermes.specs.first.Saying.{lines_of, end_of};
+ghost use Rattle.hermes.specs.first.Scripts.{script};
 
 mod calls;
 mod instructions;
@@ -61,6 +61,3 @@ pub fn generate(alloc: Global, calls: &Calls<'_>) -> Result<Generated, Memory>
         registers: REGISTERS,
     })
 }
-
-#[cfg(test)]
-mod tests;

@@ -1,58 +1,9 @@
 // The trees of a first text.
 
-ghost use Rattle.std.specs.Prelude.{◌≡◌, ◌++◌, [], ◌∷◌, OnOk, OnErr, IfNone, option_to_list};
+ghost use Rattle.std.specs.Prelude.{◌≡◌};
 
-use hz_value::Memory;
-use std::alloc::{AllocFailed, Global};
+use hz_value::{Memory, Series};
 use std::marker::Model;
-
-/// A list that contracts see as the list of its items.
-#[derive(Debug, Drop)]
-pub struct Series<T> {
-    items: Vec<T>,
-}
-
-impl<T> Model for Series<T> {
-    ghost use Rattle.std.specs.Prelude.{List};
-
-    ghost Value = { List T };
-
-    ghost view = { λ s. s.items.items };
-}
-
-impl<T> Series<T> {
-    /// The empty list.
-    pub fn new(alloc: Global) -> Self
-        ensures { result ≡ [] }
-    {
-        Series {
-            items: Vec::new(alloc),
-        }
-    }
-
-    /// Adds an item at the end.
-    pub fn push(&mut self, item: T) -> Result<(), AllocFailed<T>>
-        ensures ok { OnOk result (self.new ≡ self.old ++ item ∷ []) }
-        ensures err { OnErr result (self.new ≡ self.old) }
-    {
-        self.items.push(item)
-    }
-
-    /// Takes the last item away.
-    pub fn pop(&mut self) -> Option<T>
-        ensures last { self.old ≡ self.new ++ option_to_list result }
-        ensures none { IfNone result (self.old ≡ []) }
-    {
-        self.items.pop()
-    }
-
-    /// The items in order.
-    pub fn as_slice(&self) -> &[T]
-        ensures { result.now ≡ self.now }
-    {
-        self.items.as_slice()
-    }
-}
 
 /// The sign in front of a term.
 #[derive(Clone, Copy, Debug, PartialEq, Eq)]
@@ -135,16 +86,6 @@ impl From<Memory> for FirstFault {
     ghost from_gives = { λ _ f. f ≡ fault.Memory };
 
     fn from(_memory: Memory) -> FirstFault {
-        FirstFault::Memory
-    }
-}
-
-impl<T: Drop> From<AllocFailed<T>> for FirstFault {
-    ghost use Rattle.hermes.specs.declared.first.language.FirstFault.TheVariants.{Memory};
-
-    ghost from_gives = { λ _ fault. fault ≡ Memory };
-
-    fn from(_failed: AllocFailed<T>) -> FirstFault {
         FirstFault::Memory
     }
 }

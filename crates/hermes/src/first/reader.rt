@@ -2,12 +2,13 @@
 
 ghost use Rattle.std.specs.Prelude.{◌≡◌, ◌<◌, ◌≤◌, [], length, List, ℕ, ◌⊎◌, IfOk};
 ghost use Rattle.hermes.specs.declared.first.language.Argument.{Argument};
-ghost use Rattle.hermes.specs.FirstTexts.{IsFirst, IsOnly, IsStuck, weight};
-ghost use Rattle.hermes.specs.Reading.{is_between, Stepped, Reads, Whole};
+ghost use Rattle.hermes.specs.first.Texts.{IsFirst, IsOnly, IsStuck, weight};
+ghost use Rattle.hermes.specs.first.Reading.{is_between, Stepped, Reads, Whole};
 
-use crate::first::language::{Calls, FirstFault, Series};
+use crate::first::language::{Calls, FirstFault};
 use crate::first::state::{Next, State};
 use crate::first::steps::step;
+use hz_value::Series;
 use std::alloc::Global;
 
 /// The directive without its first byte.

@@ -1,18 +1,18 @@
 // The steps of the reader of first texts: each goes over one byte from one state to the next.
 
-ghost use Rattle.std.specs.Prelude.{◌≡◌, ◌≢◌, ◌<◌, ◌+◌, ◌^◌, [], length, slice_index, slice_range, List, ℕ, MatchOption, if◌then◌else◌, IsTrue, false, Some, None};
+ghost use Rattle.std.specs.Prelude.{◌≡◌, ◌≢◌, ◌<◌, ◌+◌, ◌^◌, [], length, slice_index, slice_range, List, ℕ};
+ghost use Rattle.std.specs.Prelude.{MatchOption, if◌then◌else◌, IsTrue, false, Some, None};
 ghost use Rattle.std.specs.Int.{IsInRange};
 ghost use Rattle.hermes.specs.declared.first.language.Argument.{Argument};
 ghost use Rattle.hermes.specs.declared.first.state.Operator.{Operator};
-ghost use Rattle.hermes.specs.FirstTexts.{is_blank, is_number, is_text_byte};
-ghost use Rattle.hermes.specs.Reading.{operator_byte, Rest, RestToken, RestText, RestNumber, IsState, Stepped};
+ghost use Rattle.hermes.specs.first.Texts.{is_blank, is_number, is_text_byte};
+ghost use Rattle.hermes.specs.first.Reading.{operator_byte, Rest, RestToken, RestText, RestNumber, IsState, Stepped};
 
 use crate::first::language::{Argument, Calls, FirstFault, Sign, Sum, Text};
 use crate::first::state::{Next, Operator, State};
 use crate::first::sums::sum_at;
+use hz_value::MAX_SAFE;
 use std::alloc::Global;
-
-const MAX_NUMBER: u64 = 9007199254740991;
 
 const MAX_TEXT: usize = 254;
 
@@ -94,7 +94,7 @@ fn digit_step(
         return Err(FirstFault::NotYet(at));
     }
     let longer = value * 10 + digit;
-    if longer > MAX_NUMBER {
+    if longer > MAX_SAFE {
         return Err(FirstFault::NotYet(at));
     }
     Ok(State::Number(before, longer))

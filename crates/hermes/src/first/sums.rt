@@ -1,10 +1,11 @@
 // Sums that grow by a number at their end.
 
 ghost use Rattle.std.specs.Prelude.{◌≡◌, ◌++◌, [], ◌∷◌, IfOk, IfErr};
-ghost use Rattle.hermes.specs.Reading.{steps_of, steps_with};
+ghost use Rattle.hermes.specs.first.Reading.{steps_of, steps_with};
 
-use crate::first::language::{Addend, FirstFault, Series, Sum, Term};
+use crate::first::language::{Addend, FirstFault, Sum, Term};
 use crate::first::state::Operator;
+use hz_value::Series;
 use std::alloc::Global;
 
 /// The sum with one factor more at its end.

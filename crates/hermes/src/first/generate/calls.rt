@@ -1,8 +1,9 @@
 // The code of calls of `print`.
 ghost use Rattle.std.specs.Prelude.{◌≡◌, ◌++◌, ◌∷◌, [], length, IsTrue, OnOk, flat_map};
 ghost use Rattle.std.specs.List.{list_all};
-ghost use Rattle.hermes.specs.FirstTexts.{is_argument};
-ghost use Rattle.hermes.specs.Generated.{argument_code, opening_code, closing_code, call_code, argument_texts, calls_code, end_code};
+ghost use Rattle.hermes.specs.first.Texts.{is_argument};
+ghost use Rattle.hermes.specs.first.Generated.{argument_code, opening_code, closing_code, call_code, argument_texts};
+ghost use Rattle.hermes.specs.first.Generated.{calls_code, end_code};
 
 use crate::first::generate::instructions::{ARGUMENT, CALLEE, THIS, push};
 use crate::first::generate::sums::push_sum;

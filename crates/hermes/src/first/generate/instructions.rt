@@ -2,7 +2,7 @@
 ghost use Rattle.std.specs.Prelude.{◌≡◌, ◌≤◌, ◌++◌, true, length, OnOk};
 ghost use Rattle.hz_ops.specs.Table.{kinds_of};
 ghost use Rattle.hz_ops.specs.Coding.{operands_fit};
-ghost use Rattle.hermes.specs.Generated.{bytes_of};
+ghost use Rattle.hermes.specs.first.Generated.{bytes_of};
 
 use hz_ops::{Instr, Op, Operand, push_instr};
 use hz_value::Memory;
@@ -26,7 +26,7 @@ pub(crate) const FACTOR: u64 = 4;
 pub(crate) const REGISTERS: u16 = 5;
 
 /// Appends the instruction, in the short form where the operands fit it.
-#[tactic(auto, unfolding(crate::specs::Generated::bytes_of))]
+#[tactic(auto, unfolding(crate::specs::first::Generated::bytes_of))]
 pub(crate) fn push(code: &mut Vec<u8>, op: Op, operands: &[Operand]) -> Result<(), Memory>
     requires few { length operands.now ≤ 5 }
     requires fits { operands_fit true (kinds_of op) operands.now ≡ true }

@@ -3,8 +3,9 @@ ghost use Rattle.std.specs.Prelude.{◌≡◌, ◌<◌, ◌++◌, ◌∷◌, [],
 ghost use Rattle.std.specs.List.{list_all};
 ghost use Rattle.hz_ops.specs.Table.{kinds_of};
 ghost use Rattle.hz_ops.specs.Coding.{operands_fit};
-ghost use Rattle.hermes.specs.FirstTexts.{is_number, is_term, is_addend, is_sum};
-ghost use Rattle.hermes.specs.Generated.{load_int, combine, factor_code, term_code, addend_code, sum_code, sign_operation};
+ghost use Rattle.hermes.specs.first.Texts.{is_number, is_term, is_addend, is_sum};
+ghost use Rattle.hermes.specs.first.Generated.{load_int, combine, factor_code, term_code, addend_code, sum_code};
+ghost use Rattle.hermes.specs.first.Generated.{sign_operation};
 
 use crate::first::generate::instructions::{ARGUMENT, FACTOR, TERM, push};
 use crate::first::language::{Addend, Sign, Sum, Term};

@@ -4,7 +4,7 @@ ghost use Rattle.hz_file.specs.Module.{module_of};
 ghost use Rattle.hz_ops.specs.Activations.{code_of, register_count};
 ghost use Rattle.hz_ops.specs.Contents as content;
 ghost use Rattle.hermes.specs.FileCode.{code_module};
-ghost use Rattle.hermes.specs.FirstSteps.{content_of};
+ghost use Rattle.hermes.specs.first.Rows.{content_of};
 
 use crate::first::run::held::Held;
 use hz_file::File;

@@ -1,13 +1,14 @@
 // Printed lines.
 ghost use Rattle.std.specs.Prelude.{◌≡◌, ◌++◌, map, IfOk, string_bytes};
+ghost use Rattle.std.specs.Fmt.{signed_decimal};
 ghost use Rattle.hz_ops.specs.Contents.{text_of, line_of};
 ghost use Rattle.hermes.specs.Printing.{line_bytes};
-ghost use Rattle.hermes.specs.FirstSteps.{content_of, Wrote, MadeLine};
+ghost use Rattle.hermes.specs.first.Rows.{content_of, Wrote, MadeLine};
 
 use crate::first::run::held::Held;
 use crate::first::run::stop::Stop;
 use hz_file::StringView;
-use hz_value::{Memory, number_text};
+use hz_value::{Memory, Safe, number_text};
 use std::alloc::Global;
 
 /// Writes the units of the text behind the others.
@@ -33,13 +34,22 @@ fn push_ascii(line: &mut Vec<u16>, text: &str) -> Result<(), Memory>
     Ok(())
 }
 
+/// Writes a number in decimal behind the others.
+fn push_number(alloc: Global, line: &mut Vec<u16>, number: Safe) -> Result<(), Memory>
+    ensures { IfOk result (λ _. line.new.items ≡ line.old.items ++ signed_decimal number) }
+{
+    let text = number_text(alloc, number)?;
+    line.extend_from_slice(text.as_slice())?;
+    Ok(())
+}
+
 /// Writes the text of what a register holds; `print` has none that is said.
 fn push_text(alloc: Global, line: &mut Vec<u16>, held: &Held<'_>) -> Result<(), Stop>
     ensures { Wrote line.old.items line.new.items (text_of (content_of held.now)) result }
 {
     match held {
         Held::Undefined => push_ascii(line, "undefined")?,
-        Held::Number(number) => line.extend_from_slice(number_text(alloc, *number)?.as_slice())?,
+        Held::Number(number) => push_number(alloc, line, *number)?,
         Held::Text(text) => push_view(line, text)?,
         Held::Print => return Err(Stop::Unbuilt),
     }
@@ -56,7 +66,7 @@ pub(crate) fn line_of(alloc: Global, arguments: &[Held<'_>]) -> Result<Vec<u16>,
     };
     push_text(alloc, &mut line, first)?;
     for argument in rest {
-        line.push(b' ' as u16)?;
+        push_ascii(&mut line, " ")?;
         push_text(alloc, &mut line, argument)?;
     }
     Ok(line)

@@ -1,5 +1,6 @@
 // The operands of an instruction, by the shapes that the rows have.
-ghost use Rattle.hermes.specs.FirstSteps.{IsRegister, IsRegisterInt, IsRegisterText, AreThreeRegisters, AreCallOperands};
+ghost use Rattle.hermes.specs.first.Rows.{IsRegister, IsRegisterInt, IsRegisterText, AreThreeRegisters};
+ghost use Rattle.hermes.specs.first.Rows.{AreCallOperands};
 
 use crate::first::run::stop::{FirstEnd, Stop};
 use hz_ops::Operand;

@@ -6,7 +6,8 @@ ghost use Rattle.hz_file.specs.Module.{module_of};
 ghost use Rattle.hz_ops.specs.Contents.{print_name};
 ghost use Rattle.hz_ops.specs.Step as row;
 ghost use Rattle.hermes.specs.FileCode.{code_module};
-ghost use Rattle.hermes.specs.FirstSteps.{activation, IsStep, Put, HasNumbers, PrintsLine, called, CallsPrint, Stops, content_of};
+ghost use Rattle.hermes.specs.first.Rows.{activation, IsStep, Put, HasNumbers, PrintsLine, called, CallsPrint, Stops};
+ghost use Rattle.hermes.specs.first.Rows.{content_of};
 
 use crate::first::run::held::Held;
 use crate::first::run::line::{line_bytes, line_of};

@@ -5,7 +5,7 @@ ghost use Rattle.hz_ops.specs.Activations.{Activation, Next, code_of};
 ghost use Rattle.hz_ops.specs.Step as row;
 ghost use Rattle.hz_ops.specs.Runs.{next_system};
 ghost use Rattle.hermes.specs.FileCode.{code_module};
-ghost use Rattle.hermes.specs.FirstSteps.{activation, IsStep, PrintsLine, Steps, StepsTo};
+ghost use Rattle.hermes.specs.first.Rows.{activation, IsStep, PrintsLine, Steps, StepsTo};
 
 use crate::first::run::held::Held;
 use crate::first::run::operands::{
@@ -96,7 +96,7 @@ pub(crate) struct Stepped {
 }
 
 /// Carries out the instruction at a place of the script's code.
-#[tactic(auto, using(crate::proofs::running::Progress::decoded_within))]
+#[tactic(auto, using(crate::proofs::first_texts::running::Progress::decoded_within))]
 pub(crate) fn step<'a>(
     alloc: Global,
     file: &File<'a>,

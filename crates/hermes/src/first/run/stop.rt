@@ -1,6 +1,5 @@
 // How a run ends.
 use hz_value::{Left, Memory};
-use std::alloc::{AllocError, AllocFailed};
 
 /// How the run of a file's code ended.
 #[derive(Clone, Copy, Debug, PartialEq, Eq)]
@@ -33,30 +32,6 @@ impl From<Memory> for Stop {
     ghost from_gives = { λ _ s. s ≡ stop.End end.Memory };
 
     fn from(_error: Memory) -> Stop {
-        Stop::End(FirstEnd::Memory)
-    }
-}
-
-impl From<AllocError> for Stop {
-    ghost use Rattle.std.specs.Prelude.{◌≡◌};
-    ghost use Rattle.hermes.specs.declared.first.run.stop.FirstEnd.TheVariants as end;
-    ghost use Rattle.hermes.specs.declared.first.run.stop.Stop.TheVariants as stop;
-
-    ghost from_gives = { λ _ s. s ≡ stop.End end.Memory };
-
-    fn from(_error: AllocError) -> Stop {
-        Stop::End(FirstEnd::Memory)
-    }
-}
-
-impl<T: Drop> From<AllocFailed<T>> for Stop {
-    ghost use Rattle.std.specs.Prelude.{◌≡◌};
-    ghost use Rattle.hermes.specs.declared.first.run.stop.FirstEnd.TheVariants as end;
-    ghost use Rattle.hermes.specs.declared.first.run.stop.Stop.TheVariants as stop;
-
-    ghost from_gives = { λ _ s. s ≡ stop.End end.Memory };
-
-    fn from(_error: AllocFailed<T>) -> Stop {
         Stop::End(FirstEnd::Memory)
     }
 }

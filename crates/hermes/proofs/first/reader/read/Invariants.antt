@@ -1,4 +1,4 @@
-use Rattle.hermes.specs.Reading.{IsRead}
+use Rattle.hermes.specs.first.Reading.{IsRead}
 use Rattle.hermes.proofs.first.reader.read.Given as goal
 
 abbrev pub invariant-loop-at : goal.invariant-loop-at

@@ -1,4 +1,4 @@
-use Rattle.hermes.proofs.reading.Reached.{found_of, alone_of, only_of, stuck_of, place_of, weight_of_read}
+use Rattle.hermes.proofs.first_texts.reading.Reached.{found_of, alone_of, only_of, stuck_of, place_of, weight_of_read}
 use Rattle.hermes.proofs.first.reader.read_first.Goals as goal
 
 pub returns : goal.returns

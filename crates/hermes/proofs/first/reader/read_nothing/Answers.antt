@@ -1,4 +1,4 @@
-use Rattle.hermes.proofs.reading.Opening.{nothing_read, nothing_refused}
+use Rattle.hermes.proofs.first_texts.reading.Opening.{nothing_read, nothing_refused}
 use Rattle.hermes.proofs.first.reader.read_nothing.Goals as goal
 
 pub returns-then-strict : goal.returns-then-strict

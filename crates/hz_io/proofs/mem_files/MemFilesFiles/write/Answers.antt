@@ -9,7 +9,9 @@ pub returns-clause-bytes : goal.returns-clause-bytes
 returns-clause-bytes c = (
   λ q other.
       let same : get_by_text c.insert.new.self q ≡ get_by_text c.self.inside.files q = grind (arith, text_keys) in
-      file_in_entries c.insert.new.self.entries q ∙ ap (option_map (λ v. v.items)) same ∙ sym (rw (← c.self.view_is) (file_in_entries c.self.inside.files.entries q)),
+      file_in_entries c.insert.new.self.entries q ∙ ap (option_map (λ v. v.items)) same
+      ∙ sym (rw (← c.self.view_is) (file_in_entries c.self.inside.files.entries q)),
   let there : get_by_text c.insert.new.self c.args.name.now ≡ Some c.in_ok-value.value = grind (arith, text_keys) in
-      file_in_entries c.insert.new.self.entries c.args.name.now ∙ ap (option_map (λ v. v.items)) there ∙ ap Some c.in_ok-value.ensures.items,
+      file_in_entries c.insert.new.self.entries c.args.name.now ∙ ap (option_map (λ v. v.items)) there
+      ∙ ap Some c.in_ok-value.ensures.items,
 )

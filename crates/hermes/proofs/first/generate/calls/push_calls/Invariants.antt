@@ -1,6 +1,6 @@
 use Rattle.std.proofs.Common.{◌≡◌, ◌++◌, take, length}
 use Rattle.std.specs.Prelude.{flat_map}
-use Rattle.hermes.specs.Generated.{calls_code, argument_texts}
+use Rattle.hermes.specs.first.Generated.{calls_code, argument_texts}
 use Rattle.hermes.proofs.first.generate.calls.push_calls.Given as goal
 
 abbrev pub invariant-loop-argument : goal.invariant-loop-argument

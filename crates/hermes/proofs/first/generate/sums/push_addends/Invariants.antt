@@ -1,6 +1,6 @@
 use Rattle.std.proofs.Common.{◌≡◌, ◌++◌, take}
 use Rattle.std.specs.Prelude.{flat_map}
-use Rattle.hermes.specs.Generated.{addend_code}
+use Rattle.hermes.specs.first.Generated.{addend_code}
 use Rattle.hermes.proofs.first.generate.sums.push_addends.Given as goal
 
 abbrev pub invariant-loop-addend : goal.invariant-loop-addend

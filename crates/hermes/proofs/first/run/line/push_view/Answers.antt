@@ -1,6 +1,6 @@
 use Rattle.std.proofs.Common.{rules, ◌≡◌, [], ◌∷◌, ◌++◌}
 use Rattle.std.proofs.Common.{take, ap, sym, ◌∙◌, append_assoc, Some, slice_get}
-use Rattle.hermes.proofs.running.Lines.{take_one}
+use Rattle.hermes.proofs.first_texts.running.Lines.{take_one}
 use Rattle.hermes.proofs.first.run.line.push_view.Goals as goal
 
 -- src/first/run/line.rt:18:5

@@ -3,8 +3,8 @@ use Rattle.std.specs.Prelude.{slice_set, string_bytes}
 use Rattle.hz_ops.specs.Contents.{line_of}
 use Rattle.hermes.specs.Printing.{line_bytes}
 use Rattle.hermes.specs.declared.first.run.held.Held.TheVariants.{Undefined}
-use Rattle.hermes.specs.FirstSteps.{content_of, CallsPrint}
-use Rattle.hermes.proofs.running.Rows.{printed_row}
+use Rattle.hermes.specs.first.Rows.{content_of, CallsPrint}
+use Rattle.hermes.proofs.first_texts.running.Rows.{printed_row}
 use Rattle.hermes.proofs.first.run.rows.call.Goals as goal
 
 pub returns : goal.returns
@@ -13,4 +13,5 @@ returns c = λ place next.
     let made : line_of (map content_of c.in_ok-arguments.field-0.now) ≡ Some c.in_ok-line.line.items = search rules in
     let spelled : string_bytes c.in_ok-bytes.bytes ≡ line_bytes c.in_ok-line.line.items = search rules in
     let put : c.put.new.registers ≡ slice_set c.args.registers.now c.args.call.result Undefined = search rules in
-    printed_row c.args.registers.now c.put.new.registers c.args.call c.in_ok-arguments.field-0.now c.in_ok-line.line.items (string_bytes c.in_ok-bytes.bytes) place next calls made spelled put
+    printed_row c.args.registers.now c.put.new.registers c.args.call c.in_ok-arguments.field-0.now
+    c.in_ok-line.line.items (string_bytes c.in_ok-bytes.bytes) place next calls made spelled put

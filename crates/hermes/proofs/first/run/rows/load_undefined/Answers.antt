@@ -1,6 +1,6 @@
 use Rattle.std.proofs.Common.{refl}
 use Rattle.hermes.specs.declared.first.run.held.Held.TheVariants.{Undefined}
-use Rattle.hermes.proofs.running.Rows.{put_row}
+use Rattle.hermes.proofs.first_texts.running.Rows.{put_row}
 use Rattle.hermes.proofs.first.run.rows.load_undefined.Goals as goal
 
 pub returns : goal.returns

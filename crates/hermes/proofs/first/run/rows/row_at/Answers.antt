@@ -1,4 +1,4 @@
-use Rattle.hermes.proofs.running.Rows.{row_found}
+use Rattle.hermes.proofs.first_texts.running.Rows.{row_found}
 use Rattle.hermes.proofs.first.run.rows.row_at.Goals as goal
 
 pub returns : goal.returns

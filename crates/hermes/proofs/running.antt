@@ -1,6 +1,0 @@
-pub mod Ending
-pub mod Lines
-pub mod Progress
-pub mod Rows
-pub mod Turning
-pub mod Worked
