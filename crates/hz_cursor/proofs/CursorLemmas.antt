@@ -1,16 +1,15 @@
 -- What a cursor keeps of the tokens that are left.
 use Rattle.std.proofs.Common.{◌≡◌, ℕ, zero, suc, ◌+◌, ◌-◌, ◌≤◌, nat_lt, inl, inr, Some, None, Bool, true, false}
-use Rattle.std.proofs.Common.{◌&&◌, ◌||◌, if◌then◌else◌, List, [], ◌∷◌, ◌++◌, drop, length, map, refl, ap, sym, ◌∙◌}
+use Rattle.std.proofs.Common.{if◌then◌else◌, List, [], ◌∷◌, ◌++◌, drop, length, map, refl, ap, sym, ◌∙◌}
 use Rattle.std.proofs.Common.{append_assoc, arith}
 use Rattle.std.proofs.Math.Seq.{drop-cons}
 use Rattle.std.proofs.lemmas.List.{drop_all}
 use Rattle.std.proofs.lemmas.Option.{slice_get_within, slice_get_cases, get_or_from_slice_get}
 use Rattle.std.specs.List.{slice_get}
 use Rattle.hz_tree.specs.declared.class.Class.{Class}
-use Rattle.hz_tree.specs.declared.class.Class.TheVariants as k
 use Rattle.hz_tree.specs.declared.class.Bracket.TheVariants.{Round}
 use Rattle.hz_tree.specs.grammar.Classes.{class_of, is_paren, fits}
-use Rattle.hz_tree.specs.grammar.Look.{arrow_behind, begins_parameters, first_arrow, Terminal, look, stuck, terminals}
+use Rattle.hz_tree.specs.grammar.Look.{arrow_behind, begins_parameters, Terminal, look, stuck, terminals}
 use Rattle.hz_tree.specs.grammar.Look.{terminals_from}
 use Rattle.hz_tree.specs.declared.look.Look.{Look}
 use Rattle.hz_tree.specs.reading.Reading.{takes, Got, Stuck}
@@ -18,59 +17,38 @@ use Rattle.hz_tree.specs.sources.Refusals.{max_length}
 use Rattle.hz_tree.specs.tokens.Text.{Text}
 use Rattle.hz_tree.specs.tokens.Tokens.{Lexeme, tokens}
 use Rattle.hz_scan.specs.Order.{end_of}
+use Rattle.hz_scan.proofs.LookLemmas.{has_arrow, one_seen, two_seen}
 use Rattle.hz_cursor.specs.declared.stored.Stored.{Stored}
 use Rattle.hz_cursor.specs.Arrows.{arrows}
 use Rattle.hz_cursor.specs.Cursor.{left, Keeps, IsCursor}
 use Rattle.hz_cursor.specs.Marks.{first_or_false}
-use Rattle.hz_cursor.specs.Stored.{shortened, long_of, full, past_full, stored_as, stored, longs, look_at}
+use Rattle.hz_cursor.specs.Stored.{shortened, long_of, full, past_full, stored_as, stored, longs, first_two}
+use Rattle.hz_cursor.specs.Stored.{gap_of, len_of, long_behind, flags_behind, Taken}
 
 -- ---- the next two
 
-parameters : (c : Class) (ts : List Lexeme) → begins_parameters c ts
-    ≡ (is_paren c && arrow_behind (Round ∷ []) (map class_of ts))
-parameters c ts =
-    elim c as (λ x. begins_parameters x ts ≡ (is_paren x && arrow_behind (Round ∷ []) (map class_of ts))) [
-      | k.LeftParen ↦ refl
-      | _ ↦ refl
-    ]
+-- the flag that comes first is that of the first `(`
+first_flag : (p a : Bool) (behind more : List Bool) → p ≡ true → first_or_false (if p then a ∷ behind else more) ≡ a
+first_flag true a behind more paren = refl
+first_flag false a behind more paren = cc
 
-first_arrow_is : (c : Class) (one two : Bool) → first_arrow c one two ≡ (if is_paren c then one else two)
-first_arrow_is c one two = elim c as (λ x. first_arrow x one two ≡ (if is_paren x then one else two)) [
-  | k.LeftParen ↦
-      refl
-  | _ ↦ refl
-]
+second_flag : (p q a b : Bool) (more : List Bool) → p ≡ false → q ≡ true
+    → first_or_false (if p then a ∷ (if q then b ∷ more else more) else (if q then b ∷ more else more)) ≡ b
+second_flag true q a b more none paren = cc
+second_flag false q a b more none paren = first_flag q b more more paren
 
-one_flag : (paren arrow : Bool) → (paren && first_or_false (if paren then arrow ∷ [] else [])) ≡ (paren && arrow)
-one_flag true arrow = refl
-one_flag false arrow = refl
-
-two_flags : (p q a b : Bool) (more : List Bool)
-    → ((p || q) && first_or_false (if p then a ∷ (if q then b ∷ more else more) else (if q then b ∷ more else more)))
-    ≡ (if p then p && a else q && b)
-two_flags true q a b more = refl
-two_flags false true a b more = refl
-two_flags false false a b more = refl
-
-pub look_left : (end : ℕ) (ts : List Lexeme) → look_at (stored end ts) (arrows (map class_of ts))
+pub look_left : (end : ℕ) (ts : List Lexeme) → first_two (stored end ts) (arrows (map class_of ts))
     ≡ look (terminals_from end ts)
 look_left end [] = refl
-look_left end (t ∷ []) = rw (
-  parameters (class_of t) [],
-  one_flag (is_paren (class_of t))
-      (arrow_behind (Round ∷ []) []),
-) refl
+look_left end (t ∷ []) = one_seen end t _ (first_flag (is_paren (class_of t)) (has_arrow []) [] [])
 look_left end (t ∷ u ∷ ts) =
     let p = is_paren (class_of t) in
     let q = is_paren (class_of u) in
-    let a = arrow_behind (Round ∷ []) (class_of u ∷ map class_of ts) in
-    let b = arrow_behind (Round ∷ []) (map class_of ts) in
-    rw (
-      parameters (class_of t) (u ∷ ts),
-      parameters (class_of u) ts,
-      first_arrow_is (class_of t) (p && a) (q && b),
-      two_flags p q a b (arrows (map class_of ts)),
-    ) refl
+    let more = arrows (map class_of ts) in
+    two_seen end t u ts _ (
+      first_flag p (has_arrow (u ∷ ts)) (arrows (map class_of (u ∷ ts))) (arrows (map class_of (u ∷ ts))),
+      second_flag p q (has_arrow (u ∷ ts)) (has_arrow ts) more,
+    )
 
 -- ---- numbers in a byte
 
@@ -91,18 +69,6 @@ past_full_is n more =
     ] refl
 
 -- ---- behind the next token
-
-abbrev pub gap_of : Stored → List ℕ → ℕ
-gap_of one long = full one.gap long
-
-abbrev pub len_of : Stored → List ℕ → ℕ
-len_of one long = full one.len (past_full one.gap long)
-
-abbrev pub long_behind : Stored → List ℕ → List ℕ
-long_behind one long = past_full one.len (past_full one.gap long)
-
-abbrev pub flags_behind : Stored → List Bool → List Bool
-flags_behind one flags = if is_paren one.class then drop 1 flags else flags
 
 flags_left : (paren arrow : Bool) (more : List Bool)
     → (if paren then drop 1 (if paren then arrow ∷ more else more) else (if paren then arrow ∷ more else more)) ≡ more
@@ -212,16 +178,8 @@ module _ {source : Text} {taken end : ℕ} {kept : List Stored} {long : List ℕ
 -- ---- a cursor
 
 seen_left : (source : Text) (end : ℕ) (kept : List Stored) (long : List ℕ) (flags : List Bool) (ts : List Lexeme)
-    → Keeps source end kept long flags ts → look_at kept flags ≡ look (terminals_from end ts)
+    → Keeps source end kept long flags ts → first_two kept flags ≡ look (terminals_from end ts)
 seen_left source end kept long flags ts keeps = rw (keeps.kept_are, keeps.flags_are) (look_left end ts)
-
--- what is taken of the long numbers and the flags
-pub record Taken (one : Stored) (long : List ℕ) (flags : List Bool) (gap len : ℕ) (long' : List ℕ)
-    (flags' : List Bool) : Type 0 where
-  pub gap_is : gap ≡ gap_of one long
-  pub len_is : len ≡ len_of one long
-  pub long_is : long' ≡ long_behind one long
-  pub flags_are : flags' ≡ flags_behind one flags
 
 module _ {source : Text} {taken end : ℕ} {kept : List Stored} {long : List ℕ} {flags : List Bool} {seen : Look}
     (cursor : IsCursor source taken end kept long flags seen) (one : Stored) (h : slice_get kept taken ≡ Some one) where
@@ -244,7 +202,7 @@ module _ {source : Text} {taken end : ℕ} {kept : List Stored} {long : List ℕ
         let short = cursor.short in
         rw (t.gap_is, t.len_is) (omega (arith, inside, short))
 
-    pub goes_on : (seen' : Look) → seen' ≡ look_at (drop (taken + 1) kept) flags'
+    pub goes_on : (seen' : Look) → seen' ≡ first_two (drop (taken + 1) kept) flags'
         → IsCursor source (taken + 1) (end + (gap + len)) kept long' flags' seen'
     goes_on seen' is = rw (is, t.gap_is, t.len_is, t.long_is, t.flags_are) (record {
       keeps = p.keeps;
@@ -263,7 +221,7 @@ module _ {source : Text} {taken end : ℕ} {kept : List Stored} {long : List ℕ
 
 pub begins : (source : Text) (kept : List Stored) (long : List ℕ) (flags : List Bool) (seen : Look)
     → length source ≤ max_length → Keeps source 0 kept long flags (tokens source)
-    → seen ≡ look_at kept flags → IsCursor source 0 0 kept long flags seen
+    → seen ≡ first_two kept flags → IsCursor source 0 0 kept long flags seen
 begins source kept long flags seen short keeps seen_is = record {
   keeps = keeps;
   within = omega arith;

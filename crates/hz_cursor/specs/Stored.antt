@@ -1,11 +1,12 @@
 -- Tokens without their texts, as they are stored.
-use Rattle.std.specs.Prelude.{ℕ, ◌-◌, nat_lt, Bool, ◌&&◌, ◌||◌, false, if◌then◌else◌, List, [], ◌∷◌, ◌++◌}
-use Rattle.std.specs.Prelude.{drop, length}
+use Rattle.std.specs.Prelude.{◌≡◌, ℕ, ◌-◌, nat_lt, Bool, if◌then◌else◌, List, [], ◌∷◌, ◌++◌, drop, length, option_map}
+use Rattle.std.specs.List.{slice_get}
 use Rattle.hz_tree.specs.declared.class.Class.{Class}
-use Rattle.hz_tree.specs.declared.class.Class.TheVariants as k
 use Rattle.hz_tree.specs.declared.look.Look.{Look}
 use Rattle.hz_tree.specs.grammar.Classes.{class_of, is_paren}
 use Rattle.hz_tree.specs.tokens.Tokens.{Lexeme}
+use Rattle.hz_scan.specs.declared.look.Seen.{Seen}
+use Rattle.hz_scan.specs.Look.{look_at}
 use Rattle.hz_scan.specs.Order.{end_of}
 use Rattle.hz_cursor.specs.declared.stored.Stored.{Stored}
 use Rattle.hz_cursor.specs.Marks.{first_or_false}
@@ -69,22 +70,34 @@ with_token c t kept = record {
   end = end_of t;
 }
 
+-- ---- behind the next token, where these long numbers and these flags of parentheses are left
+
+abbrev pub gap_of : Stored → List ℕ → ℕ
+gap_of one long = full one.gap long
+
+abbrev pub len_of : Stored → List ℕ → ℕ
+len_of one long = full one.len (past_full one.gap long)
+
+abbrev pub long_behind : Stored → List ℕ → List ℕ
+long_behind one long = past_full one.len (past_full one.gap long)
+
+abbrev pub flags_behind : Stored → List Bool → List Bool
+flags_behind one flags = if is_paren one.class then drop 1 flags else flags
+
+-- what is taken of them with the token, and what is left then
+pub record Taken (one : Stored) (long : List ℕ) (flags : List Bool) (gap len : ℕ) (long' : List ℕ)
+    (flags' : List Bool) : Type 0 where
+  pub gap_is : gap ≡ gap_of one long
+  pub len_is : len ≡ len_of one long
+  pub long_is : long' ≡ long_behind one long
+  pub flags_are : flags' ≡ flags_behind one flags
+
 -- ---- the next two tokens
 
--- where these are the flags of the parentheses that are left
-abbrev pub look_at : List Stored → (flags : List Bool) → Look
-look_at [] flags = record { one = k.End; one_newline = false; two = k.End; two_newline = false; arrow = false }
-look_at (x ∷ []) flags = record {
-  one = x.class;
-  one_newline = x.newline;
-  two = k.End;
-  two_newline = false;
-  arrow = is_paren x.class && first_or_false flags;
-}
-look_at (x ∷ y ∷ more) flags = record {
-  one = x.class;
-  one_newline = x.newline;
-  two = y.class;
-  two_newline = y.newline;
-  arrow = (is_paren x.class || is_paren y.class) && first_or_false flags;
-}
+abbrev pub seen : Stored → Seen
+seen x = record { class = x.class; newline = x.newline }
+
+-- the look of the first two of these, where the flags of the parentheses among them are these
+abbrev pub first_two : List Stored → (flags : List Bool) → Look
+first_two xs flags =
+    look_at (option_map seen (slice_get xs 0)) (option_map seen (slice_get xs 1)) (first_or_false flags)

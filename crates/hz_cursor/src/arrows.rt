@@ -4,7 +4,7 @@ ghost use Rattle.std.specs.Prelude.{◌≡◌, IfOk, reverse};
 ghost use Rattle.hz_cursor.specs.Marks.{answers};
 
 use crate::mark::Mark;
-use hz_value::Memory;
+use hz_list::Memory;
 use std::alloc::Global;
 
 /// For each `(` of the marks, whether `=>` stands behind the `)` that matches it. The first one comes last.

@@ -1,14 +1,16 @@
-ghost use Rattle.std.specs.Prelude.{◌≡◌, ◌≤◌, if◌then◌else◌, drop, length, reverse};
+ghost use Rattle.std.specs.Prelude.{◌≡◌, ◌≤◌, drop, length, option_map, reverse};
 ghost use Rattle.std.specs.List.{slice_get};
-ghost use Rattle.hz_tree.specs.grammar.Classes.{is_paren};
+ghost use Rattle.hz_cursor.specs.Marks.{first_or_false};
 ghost use Rattle.hz_cursor.specs.Stored as spec;
+ghost use Rattle.hz_cursor.specs.Stored.{Taken};
 
 use crate::arrows::flags_of;
 use crate::reading::read_tokens;
 use crate::store::{lengthen, lengthened};
 use crate::stored::Stored;
+use hz_list::Memory;
+use hz_scan::{Seen, look_at};
 use hz_tree::{Class, Look};
-use hz_value::Memory;
 use std::alloc::Global;
 use std::marker::Model;
 
@@ -65,7 +67,7 @@ impl<'a> Cursor<'a> {
         let (store, marks) = read_tokens(alloc, source)?;
         let arrows = flags_of(alloc, marks)?;
         let (tokens, long) = store.into_parts();
-        let look = look_at(rest(&tokens, 0), &arrows);
+        let look = first_two(rest(&tokens, 0), &arrows);
         Ok(Cursor {
             source,
             tokens,
@@ -90,12 +92,10 @@ impl<'a> Cursor<'a> {
     {
         match next(&self.tokens, self.taken) {
             Some(one) if wanted.fits(one.class) => {
-                let gap = lengthen(one.gap, &mut self.long);
-                let len = lengthen(one.len, &mut self.long);
-                drop_flag(&mut self.arrows, one.class);
+                let (gap, len) = go_past(one, &mut self.long, &mut self.arrows);
                 self.end += gap + len;
                 self.taken += 1;
-                self.look = look_at(rest(&self.tokens, self.taken), &self.arrows);
+                self.look = first_two(rest(&self.tokens, self.taken), &self.arrows);
                 true
             }
             _ => false,
@@ -138,42 +138,41 @@ fn next(tokens: &Vec<Stored>, taken: usize) -> Option<Stored>
     tokens.get(taken).copied()
 }
 
-/// Goes past the flag of a `(`.
-fn drop_flag(arrows: &mut Vec<bool>, class: Class)
-    ensures { reverse arrows.new.items
-        ≡ (if is_paren class then drop 1 (reverse arrows.old.items) else reverse arrows.old.items) }
+/// Goes past the token that is stored so, and gives the length of the gap before it and its own.
+fn go_past(one: Stored, long: &mut Vec<usize>, arrows: &mut Vec<bool>) -> (usize, usize)
+    ensures { Taken one (reverse long.old.items) (reverse arrows.old.items) result.0 result.1
+        (reverse long.new.items) (reverse arrows.new.items) }
 {
-    if class.is_paren() {
+    let gap = lengthen(one.gap, long);
+    let len = lengthen(one.len, long);
+    if one.class.is_paren() {
         let _ = arrows.pop();
+    }
+    (gap, len)
+}
+
+/// The look of the first two of these tokens, where the flag of the next parenthesis comes last.
+fn first_two(tokens: &[Stored], arrows: &Vec<bool>) -> Look
+    ensures { result ≡ spec.first_two tokens.now (reverse arrows.now.items) }
+{
+    look_at(
+        seen_at(tokens, 0),
+        seen_at(tokens, 1),
+        last_or_false(arrows),
+    )
+}
+
+fn seen_at(tokens: &[Stored], i: usize) -> Option<Seen>
+    ensures { result ≡ option_map spec.seen (slice_get tokens.now i) }
+{
+    match tokens.get(i) {
+        Some(token) => Some(token.seen()),
+        None => None,
     }
 }
 
-/// The first two of these tokens, where the flag of the next parenthesis comes last.
-fn look_at(tokens: &[Stored], arrows: &Vec<bool>) -> Look
-    ensures { result ≡ spec.look_at tokens.now (reverse arrows.now.items) }
+fn last_or_false(arrows: &Vec<bool>) -> bool
+    ensures { result ≡ first_or_false (reverse arrows.now.items) }
 {
-    let arrow = arrows.last().copied().unwrap_or(false);
-    match tokens {
-        [] => Look {
-            one: Class::End,
-            one_newline: false,
-            two: Class::End,
-            two_newline: false,
-            arrow: false,
-        },
-        [one] => Look {
-            one: one.class,
-            one_newline: one.newline,
-            two: Class::End,
-            two_newline: false,
-            arrow: one.class.is_paren() && arrow,
-        },
-        [one, two, ..] => Look {
-            one: one.class,
-            one_newline: one.newline,
-            two: two.class,
-            two_newline: two.newline,
-            arrow: (one.class.is_paren() || two.class.is_paren()) && arrow,
-        },
-    }
+    arrows.last().copied().unwrap_or(false)
 }

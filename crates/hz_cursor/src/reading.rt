@@ -8,8 +8,8 @@ ghost use Rattle.hz_cursor.specs.Stored.{stored, longs};
 use crate::mark::Mark;
 use crate::store::Store;
 use crate::tally::Tally;
+use hz_list::Memory;
 use hz_scan::{Tokens, class_of};
-use hz_value::Memory;
 use std::alloc::Global;
 
 /// The tokens of a source, and the marks of its parentheses.

@@ -2,8 +2,8 @@ ghost use Rattle.std.specs.Prelude.{◌≡◌, ◌≤◌, ◌+◌, ◌++◌, OnO
 ghost use Rattle.hz_cursor.specs.Stored.{shortened, long_of, full, past_full};
 
 use crate::stored::Stored;
+use hz_list::Memory;
 use hz_tree::{Class, Token};
-use hz_value::Memory;
 use std::alloc::Global;
 use std::marker::Model;
 

@@ -1,3 +1,6 @@
+ghost use Rattle.std.specs.Prelude.{◌≡◌};
+
+use hz_scan::Seen;
 use hz_tree::Class;
 
 /// A token without its text, as it is stored: in four bytes.
@@ -14,4 +17,18 @@ pub struct Stored {
 
     /// How many bytes it has, or 255 where that number is kept apart.
     pub len: u8,
+}
+
+impl Stored {
+    ghost use Rattle.hz_cursor.specs.Stored.{seen};
+
+    /// What the rules of the grammar test of it.
+    pub fn seen(self) -> Seen
+        ensures { result ≡ seen self }
+    {
+        Seen {
+            class: self.class,
+            newline: self.newline,
+        }
+    }
 }

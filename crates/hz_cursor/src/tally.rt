@@ -3,8 +3,8 @@ ghost use Rattle.hz_tree.specs.grammar.Classes as spec;
 ghost use Rattle.hz_cursor.specs.Marks.{dropped, innermost_is, is_round_bracket};
 
 use crate::mark::Mark;
+use hz_list::Memory;
 use hz_tree::{Bracket, Bracketing, Class};
-use hz_value::Memory;
 use std::alloc::Global;
 use std::marker::Model;
 

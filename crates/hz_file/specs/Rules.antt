@@ -14,11 +14,11 @@ use Rattle.hz_file.specs.Layout.{entry_is_wide, entry_place, entry_units, entry_
 abbrev pub unless : Bool → ℕ → Option ℕ
 unless test at = if test then None else Some at
 
--- V1: from 148 bytes to 2 ^ 40; the place is their number
+-- from 148 bytes to 2 ^ 40; the place is their number
 abbrev pub size_rule : List ℕ → Option ℕ
 size_rule bytes = unless (nat_le 148 (length bytes) && nat_le (length bytes) 1099511627776) (length bytes)
 
--- V2: the edition is 1
+-- the edition is 1
 abbrev pub edition_rule : List ℕ → Option ℕ
 edition_rule bytes = unless (nat_eq (edition bytes) 1) 8
 
@@ -27,7 +27,7 @@ unfoldable pub first_nonzero : ℕ → List ℕ → Option ℕ
 first_nonzero at [] = None
 first_nonzero at (x ∷ xs) = if nat_eq x 0 then first_nonzero (at + 1) xs else Some at
 
--- V3: the bits and bytes of the header that must be 0: the flags' bits but the lowest, the four bytes
+-- the bits and bytes of the header that must be 0: the flags' bits but the lowest, the four bytes
 -- behind the hash, and the last sixteen
 abbrev pub zero_rule : List ℕ → Option ℕ
 zero_rule bytes =
@@ -35,11 +35,11 @@ zero_rule bytes =
     (option_or (first_nonzero 13 (part bytes 13 3))
     (option_or (first_nonzero 44 (part bytes 44 4)) (first_nonzero 112 (part bytes 112 16))))
 
--- V4: the file's length stands in the header
+-- the file's length stands in the header
 abbrev pub length_rule : List ℕ → Option ℕ
 length_rule bytes = unless (nat_eq (file_length bytes) (length bytes)) 16
 
--- V5: the sections and the footer fill the file; until more is built there are no overflow entries,
+-- the sections and the footer fill the file; until more is built there are no overflow entries,
 -- handlers or large headers
 abbrev pub sections_rule : List ℕ → Option ℕ
 sections_rule bytes =
@@ -53,13 +53,13 @@ is_header bytes at =
     has_code bytes at && not (is_large bytes at) && nat_eq (field 2 bytes (at + 10)) 0
     && nat_eq (field 2 bytes (at + 14)) 0
 
--- V6: there is one function, the script, with a header that keeps its rules
+-- there is one function, the script, with a header that keeps its rules
 abbrev pub functions_rule : List ℕ → Option ℕ
 functions_rule bytes =
     option_or (unless (nat_eq (function_count bytes) 1) 48)
     (unless (is_header bytes (header_at 0) && nat_eq (kind_number bytes (header_at 0)) 0) (header_at 0))
 
--- V8: the code is not empty and stands in the code section
+-- the code is not empty and stands in the code section
 abbrev pub code_rule : List ℕ → Option ℕ
 code_rule bytes =
     unless (nat_lt 0 (code_size bytes (header_at 0))
@@ -70,7 +70,7 @@ unfoldable pub first_long_text : ℕ → List ℕ → Option ℕ
 first_long_text at [] = None
 first_long_text at (e ∷ es) = if nat_lt (entry_units e) 255 then first_long_text (at + 4) es else Some at
 
--- V10: each string entry keeps its rules
+-- each string entry keeps its rules
 abbrev pub entries_rule : List ℕ → Option ℕ
 entries_rule bytes = first_long_text (strings_at bytes) (entries bytes)
 
@@ -100,7 +100,7 @@ first_faulty_text bytes at next (e ∷ es) =
     if is_text_entry bytes next e
     then first_faulty_text bytes (at + 4) (next + entry_size e) es else Some at
 
--- V11: the texts fill the storage in the order of their ids without gaps
+-- the texts fill the storage in the order of their ids without gaps
 abbrev pub texts_rule : List ℕ → Option ℕ
 texts_rule bytes = first_faulty_text bytes (strings_at bytes) 0 (entries bytes)
 
@@ -110,6 +110,6 @@ first_difference at [] ys = None
 first_difference at (x ∷ xs) [] = None
 first_difference at (x ∷ xs) (y ∷ ys) = if nat_eq x y then first_difference (at + 1) xs ys else Some at
 
--- V14: the footer is the SHA-1 of all bytes before it
+-- the footer is the SHA-1 of all bytes before it
 abbrev pub footer_rule : List ℕ → Option ℕ
 footer_rule bytes = let end = length bytes - 20 in first_difference end (sha1 (take end bytes)) (drop end bytes)

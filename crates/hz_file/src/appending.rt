@@ -4,7 +4,7 @@ ghost use Rattle.std.specs.Prelude.{◌≡◌, ◌<◌, ◌++◌, OnOk, All};
 ghost use Rattle.hz_file.specs.Image.{number, numbers};
 
 use byteorder::{ByteOrder, LittleEndian};
-use hz_value::{Memory, Units};
+use hz_list::{Memory, Units};
 
 /// Puts the bytes at the end.
 pub(crate) fn put(bytes: &mut Vec<u8>, more: &[u8]) -> Result<(), Memory>

@@ -8,7 +8,10 @@ ghost use Rattle.hz_file.specs.Opening.{rule};
 
 use crate::function::FunctionView;
 use crate::kind::kind_of_number;
-use crate::malformed::Malformed;
+use crate::malformed::{
+    CODE_RULE, EDITION_RULE, ENTRIES_RULE, FOOTER_RULE, FUNCTIONS_RULE, LENGTH_RULE, Malformed,
+    SECTIONS_RULE, SIZE_RULE, TEXTS_RULE, ZERO_RULE,
+};
 use crate::numbers::{part, u16_at, u32_at, u64_at};
 use crate::sections::{self, Entry};
 use crate::string::StringView;
@@ -63,16 +66,16 @@ impl<'a> File<'a> {
             (λ file. (rule bytes.entry.now ≡ None) × (file ≡ bytes.entry.now))
             (λ fault. rule bytes.entry.now ≡ Some fault) }
     {
-        check(1, rules::size_fault(bytes))?;
-        check(2, rules::edition_fault(bytes))?;
-        check(3, rules::zero_fault(bytes))?;
-        check(4, rules::length_fault(bytes))?;
-        check(5, rules::sections_fault(bytes))?;
-        check(6, rules::functions_fault(bytes))?;
-        check(8, rules::code_fault(bytes))?;
-        check(10, rules::entries_fault(bytes))?;
-        check(11, rules::texts_fault(bytes))?;
-        check(14, rules::footer_fault(bytes))?;
+        check(SIZE_RULE, rules::size_fault(bytes))?;
+        check(EDITION_RULE, rules::edition_fault(bytes))?;
+        check(ZERO_RULE, rules::zero_fault(bytes))?;
+        check(LENGTH_RULE, rules::length_fault(bytes))?;
+        check(SECTIONS_RULE, rules::sections_fault(bytes))?;
+        check(FUNCTIONS_RULE, rules::functions_fault(bytes))?;
+        check(CODE_RULE, rules::code_fault(bytes))?;
+        check(ENTRIES_RULE, rules::entries_fault(bytes))?;
+        check(TEXTS_RULE, rules::texts_fault(bytes))?;
+        check(FOOTER_RULE, rules::footer_fault(bytes))?;
         Ok(File { bytes })
     }
 }

@@ -23,6 +23,9 @@ mod writing;
 
 pub use file::{File, has_magic};
 pub use function::FunctionView;
-pub use malformed::Malformed;
+pub use malformed::{
+    CODE_RULE, EDITION_RULE, ENTRIES_RULE, FOOTER_RULE, FUNCTIONS_RULE, LENGTH_RULE, Malformed,
+    SECTIONS_RULE, SIZE_RULE, TEXTS_RULE, ZERO_RULE,
+};
 pub use string::StringView;
 pub use writing::{Texts, write_small};

@@ -9,7 +9,7 @@ ghost use Rattle.hz_file.specs.Opening.{rule};
 
 use crate::appending::{put, put_numbers, put_text, put_u16, put_u32, put_u64};
 use crate::file::MAGIC;
-use hz_value::{Memory, Series, Units};
+use hz_list::{Memory, Series, Units};
 use sha1::Sha1;
 use std::alloc::Global;
 

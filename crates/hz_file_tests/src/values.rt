@@ -88,10 +88,11 @@ fn units_in_order(rt: HostRuntime) -> Result<(), Fail> {
     text.push(0xd800)?;
     text.push(65)?;
     assert_eq!(rt; text.len(), 2);
+    text.set(1, 66);
     assert_eq!(rt; text.at(0), Some(0xd800));
-    assert_eq!(rt; text.get(1), Some(&65));
+    assert_eq!(rt; text.get(1), Some(&66));
     assert_eq!(rt; text.at(2), None);
-    assert_eq!(rt; text.pop(), Some(65));
+    assert_eq!(rt; text.pop(), Some(66));
     assert_eq!(rt; text.into_vec().as_slice(), [0xd800].as_slice());
     Ok(())
 }

@@ -12,8 +12,9 @@ use Rattle.hz_tree.specs.sources.Shown.{name_of_kind}
 use Rattle.hz_tree.specs.tokens.Text.{Text}
 use Rattle.hz_tree.specs.tokens.Tokens.{Lexeme}
 
-abbrev pub joined : (between : Text) → List Text → Text
-joined between words = join_by (λ word. word) between words
+-- texts one behind the other, with `between` between two
+abbrev pub separated : (between : Text) → List Text → Text
+separated between words = join_by (λ word. word) between words
 
 -- ---- functions
 
@@ -34,7 +35,7 @@ function_word f = kind_word f.kind ++ (codes " " ++ (decimal f.start ++ (codes "
     ++ (codes " " ++ (decimal f.length ++ parent_word f.parent))))))
 
 abbrev pub function_line : List FunctionInfo → Text
-function_line fs = joined (codes ", ") (map function_word fs)
+function_line fs = separated (codes ", ") (map function_word fs)
 
 -- ---- tokens
 
@@ -79,4 +80,4 @@ abbrev pub token_word : Lexeme → Text
 token_word t = mark_word t.newline ++ (token_kind t.kind t.at ++ shown t.text)
 
 abbrev pub token_line : List Lexeme → Text
-token_line ts = joined (codes " ") (map token_word ts)
+token_line ts = separated (codes " ") (map token_word ts)

@@ -1,7 +1,7 @@
 ghost use Rattle.std.specs.Prelude.{◌≡◌};
-ghost use Rattle.hz_io.specs.declared.faults.FileFault.TheVariants.{Memory};
+ghost use Rattle.hz_io.specs.declared.faults.FileFault.TheVariants.{Memory as wanting};
 
-use std::alloc::{AllocError, AllocFailed};
+use hz_list::Memory;
 use thiserror::Error;
 
 /// A read or a write of a file that did not succeed.
@@ -15,18 +15,10 @@ pub enum FileFault {
     Memory,
 }
 
-impl From<AllocError> for FileFault {
-    ghost from_gives = { λ _ fault. fault ≡ Memory };
+impl From<Memory> for FileFault {
+    ghost from_gives = { λ _ fault. fault ≡ wanting };
 
-    fn from(_error: AllocError) -> FileFault {
-        FileFault::Memory
-    }
-}
-
-impl<T: Drop> From<AllocFailed<T>> for FileFault {
-    ghost from_gives = { λ _ fault. fault ≡ Memory };
-
-    fn from(_error: AllocFailed<T>) -> FileFault {
+    fn from(_memory: Memory) -> FileFault {
         FileFault::Memory
     }
 }

@@ -21,12 +21,12 @@ ghost use Rattle.std.specs.Prelude.{
 };
 ghost use Rattle.std.specs.Option.{option_copied};
 ghost use Rattle.hz_io.specs.Causes.{HasFileCause, next};
-ghost use Rattle.hz_io.specs.Contents.{ReadsFile, WritesFile};
+ghost use Rattle.hz_io.specs.Contents.{OthersStay, ReadsFile, WritesFile};
 ghost use Rattle.hz_io.specs.InMemory.{file_in, files_of, after_read, after_write};
 
 use crate::faults::FileFault;
 use crate::traits::Files;
-use hz_value::Memory;
+use hz_list::Memory;
 use std::alloc::Global;
 use std::collections::BTreeMap;
 use std::marker::Model;
@@ -134,7 +134,7 @@ impl Files for MemFiles {
         }
         match bytes_of(&self.files, name) {
             Some(bytes) => {
-                let copy = Vec::from_slice(alloc, front(bytes, max))?;
+                let copy = copy_of(alloc, front(bytes, max))?;
                 self.calls = self.calls.saturating_add(1);
                 Ok(copy)
             }
@@ -159,9 +159,7 @@ impl Files for MemFiles {
             self.write_faults = self.write_faults.saturating_add(1);
             return Err(FileFault::Failed);
         }
-        let key = String::from_str(self.alloc, name)?;
-        let value = Vec::from_slice(self.alloc, bytes)?;
-        self.files.insert(key, value)?;
+        put_bytes(&mut self.files, self.alloc, name, bytes)?;
         self.calls = self.calls.saturating_add(1);
         Ok(())
     }
@@ -176,6 +174,30 @@ fn bytes_of<'a>(files: &'a BTreeMap<String, Vec<u8>>, name: &str) -> Option<&'a 
         Some(bytes) => Some(bytes.as_slice()),
         None => None,
     }
+}
+
+// Makes these the bytes of the file with that name. After Memory the files are as before.
+fn put_bytes(
+    files: &mut BTreeMap<String, Vec<u8>>,
+    alloc: Global,
+    name: &str,
+    bytes: &[u8],
+) -> Result<(), Memory>
+    ensures others { OnOk result
+        (OthersStay (file_in (files_of files.old.entries)) (file_in (files_of files.new.entries)) name.now) }
+    ensures bytes { OnOk result (file_in (files_of files.new.entries) name.now ≡ Some bytes.now) }
+    ensures err { OnErr result (files.new.entries ≡ files.old.entries) }
+{
+    let key = String::from_str(alloc, name)?;
+    let value = Vec::from_slice(alloc, bytes)?;
+    files.insert(key, value)?;
+    Ok(())
+}
+
+fn copy_of(alloc: Global, bytes: &[u8]) -> Result<Vec<u8>, Memory>
+    ensures { IfOk result (λ copy. copy.items ≡ bytes.now) }
+{
+    Ok(Vec::from_slice(alloc, bytes)?)
 }
 
 // The first `max + 1` bytes, or all where there are fewer.

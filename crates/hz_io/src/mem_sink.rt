@@ -21,7 +21,7 @@ ghost use Rattle.hz_io.specs.InMemory.{told_of};
 
 use crate::faults::Failed;
 use crate::traits::Sink;
-use hz_value::Memory;
+use hz_list::Memory;
 use std::alloc::Global;
 use std::marker::Model;
 

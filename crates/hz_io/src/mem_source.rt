@@ -22,7 +22,7 @@ ghost use Rattle.hz_io.specs.Causes.{HasCause, next};
 
 use crate::faults::Failed;
 use crate::traits::Source;
-use hz_value::Memory;
+use hz_list::Memory;
 use std::alloc::Global;
 use std::marker::Model;
 

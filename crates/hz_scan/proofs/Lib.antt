@@ -7,3 +7,4 @@ pub mod NumberLemmas
 pub mod WordLemmas
 pub mod SpellingLemmas
 pub mod OrderLemmas
+pub mod LookLemmas

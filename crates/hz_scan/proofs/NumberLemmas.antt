@@ -36,26 +36,23 @@ bounded bound radix value (b ∷ digits) h =
 is_other : (b c : ℕ) → (b ≡ c → ⊥) → (b == c) ≡ false
 is_other b c h = grind (arith, nat_tests)
 
-pub goes_on : (bound radix value whole i : ℕ) (digits : List ℕ) → 1 ≤ radix → i < length digits
-    → (get_or digits i 0 ≡ 95 → ⊥)
-    → min (value_from radix value (drop i digits)) bound ≡ whole
-    → min (value_from radix (min (value * radix + digit_value (get_or digits i 0)) bound) (drop (i + 1) digits)) bound
-    ≡ whole
-goes_on bound radix value whole i digits h inside other so_far =
-    let b = get_or digits i 0 in
-    let known : min (value_from radix (cond (b == 95) value (value * radix + digit_value b)) (drop (suc i) digits))
-    bound ≡ whole =
-    rw (drop-cons digits i 0 inside) at so_far in
-    let known' : min (value_from radix (value * radix + digit_value b) (drop (suc i) digits)) bound ≡ whole =
-    rw (is_other b 95 other) at known in
-    rw add-one (bounded bound radix (value * radix + digit_value b) (drop (suc i) digits) h ∙ known')
+-- at the digit or `_` with the number `i`, where the value so far is kept at most at the bound
+module _ (bound radix value whole i : ℕ) (digits : List ℕ) (inside : i < length digits)
+    (so_far : min (value_from radix value (drop i digits)) bound ≡ whole) where
+  step : min (value_from radix (cond (get_or digits i 0 == 95) value
+      (value * radix + digit_value (get_or digits i 0))) (drop (suc i) digits)) bound ≡ whole
+  step = rw (drop-cons digits i 0 inside) at so_far
 
-pub passes_on : (bound radix value whole i : ℕ) (digits : List ℕ) → i < length digits → get_or digits i 0 ≡ 95
-    → min (value_from radix value (drop i digits)) bound ≡ whole
-    → min (value_from radix value (drop (i + 1) digits)) bound ≡ whole
-passes_on bound radix value whole i digits inside is so_far =
-    let known : min (value_from radix (cond (get_or digits i 0 == 95) value
-    (value * radix + digit_value (get_or digits i 0))) (drop (suc i) digits)) bound ≡ whole =
-    rw (drop-cons digits i 0 inside) at so_far in
-    let known' : min (value_from radix value (drop (suc i) digits)) bound ≡ whole = rw is at known in
-    rw add-one known'
+  pub goes_on : 1 ≤ radix → (get_or digits i 0 ≡ 95 → ⊥)
+      → min (value_from radix (min (value * radix + digit_value (get_or digits i 0)) bound) (drop (i + 1) digits)) bound
+      ≡ whole
+  goes_on some other =
+      let longer = value * radix + digit_value (get_or digits i 0) in
+      let known : min (value_from radix longer (drop (suc i) digits)) bound ≡ whole
+      = rw (is_other (get_or digits i 0) 95 other) at step in
+      rw add-one (bounded bound radix longer (drop (suc i) digits) some ∙ known)
+
+  pub passes_on : get_or digits i 0 ≡ 95 → min (value_from radix value (drop (i + 1) digits)) bound ≡ whole
+  passes_on is =
+      let known : min (value_from radix value (drop (suc i) digits)) bound ≡ whole = rw is at step in
+      rw add-one known

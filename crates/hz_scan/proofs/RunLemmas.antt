@@ -13,10 +13,11 @@ pub joined_stops : (part : Text → Stretch) (z : Text) (front : Stretch) → (p
 joined_stops part z front stops = ap (joined front) (run_stops part z stops) ∙ joined_none front
 
 -- behind one more part
-pub goes_on : (part : Text → Stretch) (z after : Text) (front whole p : Stretch) → joined front (run part z) ≡ whole
-    → p ≡ part z → 1 ≤ p.len → p.len ≤ length z → after ≡ drop p.len z
-    → joined (joined front p) (run part after) ≡ whole
-goes_on part z after front whole p so_far is moves within behind =
-    let known : joined front (run part z) ≡ joined (joined front (part z)) (run part (drop (part z).len z)) =
-    joined_goes part z front (rw (← is) moves) (rw (← is) within) in
-    rw (behind, is) (sym known ∙ so_far)
+module _ (part : Text → Stretch) (z : Text) (front p : Stretch) (is : p ≡ part z) (moves : 1 ≤ p.len)
+    (within : p.len ≤ length z) where
+  pub goes_on : (whole : Stretch) → joined front (run part z) ≡ whole
+      → joined (joined front p) (run part (drop p.len z)) ≡ whole
+  goes_on whole so_far =
+      let known : joined front (run part z) ≡ joined (joined front (part z)) (run part (drop (part z).len z)) =
+      joined_goes part z front (rw (← is) moves) (rw (← is) within) in
+      rw is (sym known ∙ so_far)

@@ -5,17 +5,8 @@ use Rattle.hz_tree.specs.declared.outside.OutsideKind.TheVariants.{BigInt, Numbe
 use Rattle.hz_tree.specs.declared.outside.OutsideKind.TheVariants.{HtmlComment}
 use Rattle.hz_tree.specs.declared.token.TokenKind.TheVariants.{Name, Word, Punct, Number, Text, OctalNumber, Template}
 use Rattle.hz_tree.specs.declared.token.TokenKind.TheVariants.{End, Bad}
-use Rattle.hz_tree.specs.tokens.Text.{run}
-use Rattle.hz_tree.specs.tokens.Characters.{code_point, char_len, is_white_space, is_line_terminator, starts_name}
-use Rattle.hz_tree.specs.tokens.Characters.{continues_name}
-use Rattle.hz_tree.specs.tokens.Spaces.{line_part, line_comment, block_part, block_comment, blank, space_part, gap}
-use Rattle.hz_tree.specs.tokens.Names.{reserved_words, is_reserved, name_part, name}
-use Rattle.hz_tree.specs.tokens.Numbers.{digit_part, digits_len, value_of, radix_of, literal, valued, non_decimal}
-use Rattle.hz_tree.specs.tokens.Numbers.{decimal, number}
-use Rattle.hz_tree.specs.tokens.Literals.{braced_escape, unicode_escape, escape_len, is_octal_escape, text_part, text}
-use Rattle.hz_tree.specs.tokens.Literals.{template_part, template}
-use Rattle.hz_tree.specs.tokens.Punctuators.{punctuator_of, punctuator_len}
-use Rattle.hz_tree.specs.tokens.Tokens.{Lexeme, sign, other, token, token_behind, tokens_from, tokens}
+use Rattle.hz_tree.specs.tokens.Tokens.{Lexeme, tokens}
+use Rattle.hz_tree.proofs.Scanning.{scanning}
 
 -- each source has these tokens, as far as a function sees them
 abbrev Have : {A : Type 0} → (Lexeme → A) → List (List ℕ × List A) → Type 0
@@ -41,11 +32,7 @@ kinds : Have (λ t. t.kind) (
     )
     ∷ (codes "a" ++ 92 ∷ codes "u0061", Name ∷ Bad (Outside IdentifierEscape) ∷ [])
     ∷ [])
-unfolding tokens_from token_behind gap blank space_part line_comment line_part block_comment block_part run code_point
-    char_len is_white_space is_line_terminator token starts_name name name_part continues_name is_reserved
-    reserved_words number decimal non_decimal value_of digits_len digit_part radix_of literal valued text text_part
-    escape_len unicode_escape braced_escape is_octal_escape template template_part other sign punctuator_len
-    punctuator_of
+unfolding scanning
 kinds = (refl, (refl, (refl, (refl, (refl, (refl, (refl, (refl, (refl, (refl, (refl, (refl, (refl, tt)))))))))))))
 
 places : Have (λ t. t.at) (
@@ -55,11 +42,7 @@ places : Have (λ t. t.at) (
     ∷ (codes "a <<!--b", 0 ∷ 2 ∷ 4 ∷ 5 ∷ 7 ∷ 8 ∷ [])
     ∷ (codes "a>>>>=b", 0 ∷ 1 ∷ 4 ∷ 6 ∷ 7 ∷ [])
     ∷ [])
-unfolding tokens_from token_behind gap blank space_part line_comment line_part block_comment block_part run code_point
-    char_len is_white_space is_line_terminator token starts_name name name_part continues_name is_reserved
-    reserved_words number decimal non_decimal value_of digits_len digit_part radix_of literal valued text text_part
-    escape_len unicode_escape braced_escape is_octal_escape template template_part other sign punctuator_len
-    punctuator_of
+unfolding scanning
 places = (refl, (refl, (refl, (refl, (refl, tt)))))
 
 newlines : Have (λ t. t.newline) ((
@@ -68,9 +51,5 @@ newlines : Have (λ t. t.newline) ((
 )
     ∷ (codes "a /**/ b", false ∷ false ∷ false ∷ [])
     ∷ [])
-unfolding tokens_from token_behind gap blank space_part line_comment line_part block_comment block_part run code_point
-    char_len is_white_space is_line_terminator token starts_name name name_part continues_name is_reserved
-    reserved_words number decimal non_decimal value_of digits_len digit_part radix_of literal valued text text_part
-    escape_len unicode_escape braced_escape is_octal_escape template template_part other sign punctuator_len
-    punctuator_of
+unfolding scanning
 newlines = (refl, (refl, tt))

@@ -1,3 +1,4 @@
+pub mod Look
 pub mod Order
 pub mod Reach
 pub mod Spelling

@@ -1,6 +1,6 @@
 use crate::bytes::byte;
+use hz_list::Memory;
 use hz_tree::{Token, TokenKind};
-use hz_value::Memory;
 use std::alloc::Global;
 use std::marker::Model;
 

@@ -1,4 +1,5 @@
-// The scanner: it gives the tokens of a source one after the other, and the class by which the grammar knows each.
+// The scanner: it gives the tokens of a source one after the other, the class by which the grammar knows each, and the
+// look of two.
 //
 // The layer above relies on this: a `Scanner` is a source and a place in it, and `next` gives the token that
 // hz_tree's `specs/tokens/Tokens.antt` has behind the place; it takes no memory. `Tokens` is the list of the source's
@@ -16,6 +17,7 @@ mod front;
 mod laws;
 mod list;
 mod literals;
+mod look;
 mod names;
 mod numbers;
 mod punctuators;
@@ -30,5 +32,6 @@ pub use class::class_of;
 pub use first::first_token_len;
 pub use laws::{tokens_from_the_middle, tokens_in_order};
 pub use list::list_tokens;
+pub use look::{Seen, look_at};
 pub use scanner::Scanner;
 pub use tokens::Tokens;

@@ -2,8 +2,8 @@ ghost use Rattle.std.specs.Prelude.{◌≡◌, map, IfOk};
 ghost use Rattle.hz_tree.specs.tokens.Tokens as spec;
 
 use crate::tokens::Tokens;
+use hz_list::Memory;
 use hz_tree::Token;
-use hz_value::Memory;
 use std::alloc::Global;
 
 /// The tokens of a source, up to `End` or the first `Bad`. Only memory can fail.

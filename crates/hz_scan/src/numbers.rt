@@ -1,6 +1,6 @@
 //! Numeric literals.
 
-ghost use Rattle.std.specs.Prelude.{◌≡◌, ◌<◌, ◌≤◌, ◌+◌, ◌^◌, length, min, true, slice_index};
+ghost use Rattle.std.specs.Prelude.{◌≡◌, ◌<◌, ◌≤◌, ◌+◌, length, min, true, slice_index};
 ghost use Rattle.std.specs.Char.{digit_value, is_digit, is_ascii_digit};
 ghost use Rattle.std.specs.List.{prefix_len};
 ghost use Rattle.hz_tree.specs.tokens.Numbers as spec;
@@ -8,8 +8,8 @@ ghost use Rattle.hz_tree.specs.tokens.Numbers as spec;
 use crate::bytes::{byte, rest};
 use crate::characters::{code_point, starts_name};
 use crate::run::{NONE, Repeats, plain, run};
+use hz_list::MAX_SAFE;
 use hz_tree::{BadKind, Front, OutsideKind, Stretch, TokenKind};
-use hz_value::MAX_SAFE;
 
 /// A token that does not begin here.
 pub fn bad(cause: BadKind) -> Front
@@ -41,11 +41,11 @@ fn has_digit(z: &[u8], at: usize, radix: u8) -> bool
     digit(byte(z, at)) < radix
 }
 
-/// The number that the digits stand for, or 2 ^ 53 where it is greater.
+/// The number that the digits stand for, or `MAX_SAFE + 1` where it is greater.
 #[tactic(auto, unfolding(hz_tree::specs::tokens::Numbers::value_of))]
 pub fn value(radix: u8, digits: &[u8]) -> u64
     requires { 1 ≤ radix }
-    ensures { result ≡ min (spec.value_of radix digits.now) (2 ^ 53) }
+    ensures { result ≡ min (spec.value_of radix digits.now) (MAX_SAFE + 1) }
 {
     let mut value: u64 = 0;
     for b in digits {

@@ -1,7 +1,7 @@
 use crate::braces::Braces;
 use crate::scanner::next_token;
+use hz_list::Memory;
 use hz_tree::Token;
-use hz_value::Memory;
 use std::alloc::Global;
 use std::marker::Model;
 

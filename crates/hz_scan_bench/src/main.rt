@@ -5,8 +5,8 @@
 ghost use Rattle.std.specs.Prelude.{◌≡◌, IfOk, length};
 ghost use Rattle.hz_tree.specs.tokens.Tokens.{tokens};
 
+use hz_list::Memory;
 use hz_scan::Tokens;
-use hz_value::Memory;
 use std::alloc::Global;
 use std::{env, fs, io};
 

@@ -2,6 +2,7 @@
 use Rattle.std.specs.Prelude.{◌≡◌, ◌⊎◌, ℕ, ◌+◌, ◌*◌, ◌<◌, ◌≤◌, Bool, not, ◌&&◌, ◌||◌, ◌==◌, nat_le, nat_lt, IsTrue}
 use Rattle.std.specs.Prelude.{MatchBool, List, [], ◌∷◌, ◌++◌, length, take, decimal, codes, flat_map}
 use Rattle.std.specs.List.{list_all}
+use Rattle.hz_list.specs.declared.limits.TheConstants.{MAX_SAFE}
 use Rattle.hermes.specs.declared.first.language.Sign.{Sign}
 use Rattle.hermes.specs.declared.first.language.Sign.TheVariants.{Plus, Minus}
 use Rattle.hermes.specs.declared.first.language.Term.{Term}
@@ -54,9 +55,9 @@ Spaced (token ∷ tokens) bytes =
     (blanks : List ℕ) × (rest : List ℕ) × (bytes ≡ token ++ (blanks ++ rest)) × IsTrue (list_all is_blank blanks)
     × Spaced tokens rest
 
--- What may stand in a text and in a sum: 2 ^ 53 - 1 is the largest number, 254 bytes the longest text.
+-- What may stand in a text and in a sum: the largest number is the greatest safe integer, 254 bytes the longest text.
 abbrev pub is_number : ℕ → Bool
-is_number n = nat_le n 9007199254740991
+is_number n = nat_le n MAX_SAFE
 
 abbrev pub is_text_byte : ℕ → Bool
 is_text_byte b = nat_le 32 b && nat_le b 126 && not (b == 34) && not (b == 92)

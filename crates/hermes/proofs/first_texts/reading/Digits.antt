@@ -5,6 +5,7 @@ use Rattle.std.proofs.Common.{Option}
 use Rattle.std.specs.List.{list_all}
 use Rattle.std.specs.Int.{IsInRange}
 use Rattle.std.proofs.lemmas.List.{append-nil}
+use Rattle.hz_list.specs.declared.limits.TheConstants.{MAX_SAFE}
 use Rattle.hermes.proofs.first_texts.reading.Bools.{both, first_of_both, second_of_both}
 use Rattle.hermes.specs.first.Texts.{Spaced, is_number, is_text_byte}
 use Rattle.hermes.specs.first.Reading.{Step, steps_of, steps_with, FollowClose, FollowSum, RestToken, RestText}
@@ -125,7 +126,7 @@ text_full text done b other full r calls x =
 InNumber : ℕ → Option (Sum × Operator) → ℕ → List Argument → List ℕ → List Argument → Type 0
 InNumber b before value done r calls =
     ((tokens : List (List ℕ)) × FollowSum (steps_with before value) done tokens calls × Spaced ([] ∷ tokens) (b ∷ r))
-    ⊎ (IsInRange 48 57 b × (0 < value) × (value * 10 + (b - 48) ≤ 9007199254740991)
+    ⊎ (IsInRange 48 57 b × (0 < value) × (value * 10 + (b - 48) ≤ MAX_SAFE)
     × RestNumber before (value * 10 + (b - 48)) done r calls)
 
 some_digit : (value n b : ℕ) (more : List ℕ) → is_number n ≡ true → decimal n ≡ decimal value ++ b ∷ more → 0 < value
@@ -149,7 +150,7 @@ number_goes_on (y ∷ more) before value n done tokens calls b r hv h e f s =
     let here : decimal n ≡ decimal value ++ b ∷ more = e ∙ ap (λ (z : ℕ). decimal value ++ z ∷ more) (sym g.0) in
     let digit : IsInRange 48 57 b = numeral_digit n value b more h here in
     let some : 0 < value = some_digit value n b more h here in
-    let fits : value * 10 + (b - 48) ≤ 9007199254740991 = front_fits n value b more h hv here in
+    let fits : value * 10 + (b - 48) ≤ MAX_SAFE = front_fits n value b more h hv here in
     let whole : decimal n ≡ decimal (value * 10 + (b - 48)) ++ more =
     here ∙ sym (append_assoc (decimal value) (b ∷ []) more)
     ∙ ap (λ (ds : List ℕ). ds ++ more) (sym (one_more value b some digit fits)) in
@@ -161,7 +162,7 @@ in_number : (before : Option (Sum × Operator)) (value : ℕ) (done : List Argum
 in_number before value done b r calls hv x = number_goes_on x.1 before value x.0 done x.2 calls b r hv x.3 x.4 x.5 x.6
 
 number_longer : (before : Option (Sum × Operator)) (value : ℕ) (done : List Argument) (b : ℕ) (r : List ℕ)
-    (calls : List Argument) → IsInRange 48 57 b → 0 < value → value * 10 + (b - 48) ≤ 9007199254740991 →
+    (calls : List Argument) → IsInRange 48 57 b → 0 < value → value * 10 + (b - 48) ≤ MAX_SAFE →
     RestNumber before (value * 10 + (b - 48)) done r calls → RestNumber before value done (b ∷ r) calls
 number_longer before value done b r calls digit some fits x =
     let whole : decimal x.0 ≡ decimal value ++ b ∷ x.1 =
@@ -178,7 +179,7 @@ no_digit before value done tokens calls b r digit f s =
     absurd (omega (arith, digit))
 
 pub digit_moves : (before : Option (Sum × Operator)) (value : ℕ) (done : List Argument) (b : ℕ) → is_number value ≡ true
-    → IsInRange 48 57 b → 0 < value → value * 10 + (b - 48) ≤ 9007199254740991 →
+    → IsInRange 48 57 b → 0 < value → value * 10 + (b - 48) ≤ MAX_SAFE →
     Moves (RestNumber before value done) (RestNumber before (value * 10 + (b - 48)) done) b
 unfolding InNumber
 digit_moves before value done b hv digit some fits = record {
@@ -201,7 +202,7 @@ zero_halts before done b digit r calls x =
     ]
 
 pub large_halts : (before : Option (Sum × Operator)) (value : ℕ) (done : List Argument) (b : ℕ) → is_number value ≡ true
-    → IsInRange 48 57 b → 9007199254740991 < value * 10 + (b - 48) → Halts (RestNumber before value done) b
+    → IsInRange 48 57 b → MAX_SAFE < value * 10 + (b - 48) → Halts (RestNumber before value done) b
 unfolding InNumber
 large_halts before value done b hv digit large r calls x =
     elim (in_number before value done b r calls hv x) [

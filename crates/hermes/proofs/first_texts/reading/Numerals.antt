@@ -7,13 +7,14 @@ use Rattle.std.specs.Int.{IsInRange}
 use Rattle.std.proofs.lemmas.Str.Parse.{digit_from_value}
 use Rattle.std.proofs.lemmas.Fmt.{decimal_is_IsNumeral, decimal_digit, decimal_step, decimal_injective, first_decimal}
 use Rattle.std.proofs.lemmas.List.{append-nil}
+use Rattle.hz_list.specs.declared.limits.TheConstants.{MAX_SAFE}
 use Rattle.hermes.specs.first.Texts.{is_number}
 
-pub number_fits : (n : ℕ) → is_number n ≡ true → n ≤ 9007199254740991
+pub number_fits : (n : ℕ) → is_number n ≡ true → n ≤ MAX_SAFE
 number_fits n h = grind (arith, h)
 
 pub number_small : (n : ℕ) → is_number n ≡ true → n < 2 ^ 64
-number_small n h = let le : n ≤ 9007199254740991 = number_fits n h in omega arith
+number_small n h = let le : n ≤ MAX_SAFE = number_fits n h in omega arith
 
 pub digit_in : (xs : List ℕ) (b : ℕ) (ys : List ℕ) → AllDigits 10 (xs ++ b ∷ ys) → IsInRange 48 57 b
 digit_in [] b ys all = digit_from_value b all.0
@@ -55,7 +56,7 @@ digit_alone b h =
     let same : 48 + (b - 48) ≡ b = omega arith in
     decimal_digit (b - 48) (omega arith) ∙ ap (λ (x : ℕ). x ∷ []) same
 
-pub one_more : (v b : ℕ) → 0 < v → IsInRange 48 57 b → v * 10 + (b - 48) ≤ 9007199254740991
+pub one_more : (v b : ℕ) → 0 < v → IsInRange 48 57 b → v * 10 + (b - 48) ≤ MAX_SAFE
     → decimal (v * 10 + (b - 48)) ≡ decimal v ++ b ∷ []
 one_more v b some h fits =
     let quotient : (v * 10 + (b - 48)) / 10 ≡ v = omega arith in
@@ -79,7 +80,7 @@ digit_value_is b h = grind (arith, h)
 
 -- A numeral is at least what its front digits say.
 pub front_fits : (n v b : ℕ) (more : List ℕ) → is_number n ≡ true → is_number v ≡ true
-    → decimal n ≡ decimal v ++ b ∷ more → v * 10 + (b - 48) ≤ 9007199254740991
+    → decimal n ≡ decimal v ++ b ∷ more → v * 10 + (b - 48) ≤ MAX_SAFE
 front_fits n v b more h hv e =
     let whole : digits_value 10 (decimal n) ≡ n = (decimal_is_IsNumeral n (number_small n h)).1 in
     let front : digits_value 10 (decimal v) ≡ v = (decimal_is_IsNumeral v (number_small v hv)).1 in
@@ -91,7 +92,7 @@ front_fits n v b more h hv e =
     ∙ ap (λ (d : ℕ). digits_value_after 10 (v * 10 + d) more) digit in
     let grows : v * 10 + (b - 48) ≤ digits_value_after 10 (v * 10 + (b - 48)) more =
     value_grows (v * 10 + (b - 48)) more in
-    let fits : n ≤ 9007199254740991 = number_fits n h in
+    let fits : n ≤ MAX_SAFE = number_fits n h in
     omega arith
 
 pub same_numeral : (n v : ℕ) → is_number n ≡ true → is_number v ≡ true → decimal n ≡ decimal v ++ [] → n ≡ v

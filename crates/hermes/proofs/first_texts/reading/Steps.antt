@@ -4,6 +4,7 @@ use Rattle.std.proofs.Common.{◌∷◌, ◌++◌, length, take, drop, slice_ind
 use Rattle.std.proofs.Common.{◌∙◌, subst, arith, Option, Some, None, Result, Ok, Err}
 use Rattle.std.specs.Int.{IsInRange}
 use Rattle.std.proofs.lemmas.List.{length-drop, length-take-le, get_or-drop, take_more, nil_from_length}
+use Rattle.hz_list.specs.declared.limits.TheConstants.{MAX_SAFE}
 use Rattle.hermes.specs.first.Texts.{is_number, is_text_byte}
 use Rattle.hermes.specs.first.Reading.{operator_byte, Rest, RestToken, RestText, RestNumber, Moves, Halts, IsState}
 use Rattle.hermes.specs.first.Reading.{Stepped}
@@ -150,13 +151,13 @@ no_zero_in_front before value d done small e =
     (zero_halts before done (48 + d) (digit_in (48 + d) d small refl))
 
 pub too_large : (before : Option (Sum × Operator)) (value d : ℕ) (done : List Argument) → is_number value ≡ true
-    → d < 10 → 9007199254740991 < value * 10 + d → Halts (RestNumber before value done) (48 + d)
+    → d < 10 → MAX_SAFE < value * 10 + d → Halts (RestNumber before value done) (48 + d)
 too_large before value d done h small large =
     let same : 48 + d - 48 ≡ d = digit_value_is (48 + d) d refl in
     large_halts before value done (48 + d) h (digit_in (48 + d) d small refl) (omega arith)
 
 pub digit_longer : (before : Option (Sum × Operator)) (value d : ℕ) (done : List Argument) → is_number value ≡ true
-    → d < 10 → (value ≡ 0 → ⊥) → value * 10 + d ≤ 9007199254740991 →
+    → d < 10 → (value ≡ 0 → ⊥) → value * 10 + d ≤ MAX_SAFE →
     (is_number (value * 10 + d) ≡ true)
     × Moves (RestNumber before value done) (RestNumber before (value * 10 + d) done) (48 + d)
 digit_longer before value d done h small some fits =

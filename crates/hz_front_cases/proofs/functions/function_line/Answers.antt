@@ -3,7 +3,7 @@ use Rattle.std.specs.List.{join_by}
 use Rattle.std.proofs.lemmas.Result.{IfOk-weaker}
 use Rattle.hz_tree.specs.sources.Refusals.{functions}
 use Rattle.hz_front_cases.specs.Answers.{function_word}
-use Rattle.hz_front_cases.proofs.Joined.{all_words, one_more_word}
+use Rattle.hz_front_cases.proofs.Separated.{all_words, one_more_word}
 use Rattle.hz_front_cases.proofs.functions.function_line.Goals as goal
 
 pub loop-k-preserved : goal.loop-k-preserved

@@ -3,8 +3,8 @@ use Rattle.std.specs.List.{join_by}
 use Rattle.std.proofs.lemmas.Result.{IfOk-weaker}
 use Rattle.std.proofs.lemmas.Option.{slice_get-get_or}
 use Rattle.hz_tree.specs.tokens.Tokens.{lexeme}
-use Rattle.hz_front_cases.specs.Answers.{joined, token_word}
-use Rattle.hz_front_cases.proofs.Joined.{all_words, map_twice, one_more_word}
+use Rattle.hz_front_cases.specs.Answers.{separated, token_word}
+use Rattle.hz_front_cases.proofs.Separated.{all_words, map_twice, one_more_word}
 use Rattle.hz_front_cases.proofs.tokens.token_words.Goals as goal
 
 pub loop-token-preserved : goal.loop-token-preserved
@@ -22,5 +22,5 @@ returns c =
     (λ text is. is ∙ ap (join_by string_bytes (codes " ")) c.deref.ensures.value
     ∙ all_words (λ t. token_word (lexeme t)) (codes " ") c.loop-token.words.items all c.loop-token.token-index
     c.loop-token.invariant c.loop-token-test.false
-    ∙ ap (joined (codes " ")) (map_twice token_word lexeme all))
+    ∙ ap (separated (codes " ")) (map_twice token_word lexeme all))
     c.join.ensures.ok

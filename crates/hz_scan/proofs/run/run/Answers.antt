@@ -11,8 +11,9 @@ returns-then-part-eq0-clause-value g c =
 
 pub parts-preserved : goal.parts-preserved
 parts-preserved g c = (
-  goes_on (g.P.Repeats.part_of c.args.parts.now) c.parts.z.now c.rest-z.result.now
-      (record { len = c.parts.len; marked = c.parts.marked }) _ c.part-part.result
-      c.parts.invariant.0 c.part-part.ensures.value (omega arith) c.part-part.ensures.within c.rest-z.ensures,
+  rw c.rest-z.ensures
+      (goes_on (g.P.Repeats.part_of c.args.parts.now) c.parts.z.now
+      (record { len = c.parts.len; marked = c.parts.marked })
+      c.part-part.result c.part-part.ensures.value (omega arith) c.part-part.ensures.within _ c.parts.invariant.0),
   grind (arith, common_steps),
 )

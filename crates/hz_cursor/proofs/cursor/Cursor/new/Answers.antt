@@ -4,7 +4,7 @@ use Rattle.hz_tree.specs.tokens.Tokens.{tokens}
 use Rattle.hz_scan.proofs.OrderLemmas.{in_order}
 use Rattle.hz_cursor.specs.Cursor.{Keeps}
 use Rattle.hz_cursor.specs.Marks.{answers}
-use Rattle.hz_cursor.specs.Stored.{look_at}
+use Rattle.hz_cursor.specs.Stored.{first_two}
 use Rattle.hz_cursor.proofs.ArrowLemmas.{answers_all}
 use Rattle.hz_cursor.proofs.CursorLemmas.{begins, all_left}
 use Rattle.hz_cursor.proofs.cursor.Cursor.new.Goals as goal
@@ -22,8 +22,8 @@ invariant_of-result c =
           ∙ answers_all (map class_of (tokens source));
       order = in_order source;
     } in
-    begins source kept long flags c.look_at-look.result c.requires keeps
-    (c.look_at-look.ensures ∙ ap (λ ts. look_at ts flags) c.rest.ensures)
+    begins source kept long flags c.first_two-look.result c.requires keeps
+    (c.first_two-look.ensures ∙ ap (λ ts. first_two ts flags) c.rest.ensures)
 
 pub returns : goal.returns
 returns c = all_left c.args.source.now

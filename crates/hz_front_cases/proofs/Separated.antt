@@ -1,4 +1,4 @@
--- Texts that are joined are joined by what their elements say.
+-- Texts that are written one behind the other are separated as their elements say.
 use Rattle.std.proofs.Common.{◌≡◌, ◌≤◌, ◌+◌, refl, ap, sym, ◌∙◌, ℕ, List}
 use Rattle.std.proofs.Common.{[], ◌∷◌, ◌++◌, map, take, length, Some, slice_get, string_bytes}
 use Rattle.std.specs.Prelude.{String}
@@ -6,24 +6,24 @@ use Rattle.std.specs.List.{flat_map, join_by}
 use Rattle.std.proofs.lemmas.List.{map-append, take_more, take_all}
 use Rattle.std.proofs.lemmas.Option.{slice_get_within, get_or_from_slice_get}
 use Rattle.hz_tree.specs.tokens.Text.{Text}
-use Rattle.hz_front_cases.specs.Answers.{joined}
+use Rattle.hz_front_cases.specs.Answers.{separated}
 
 later_words : {X : Type 0} (word : X → Text) (between : Text) (xs : List X)
     → flat_map (λ x. between ++ word x) xs ≡ flat_map (λ w. between ++ w) (map word xs)
 later_words word between [] = refl
 later_words word between (x ∷ xs) = ap (λ more. (between ++ word x) ++ more) (later_words word between xs)
 
-joined_words : {X : Type 0} (word : X → Text) (between : Text) (xs : List X)
-    → join_by word between xs ≡ joined between (map word xs)
-joined_words word between [] = refl
-joined_words word between (x ∷ xs) = ap (λ more. word x ++ more) (later_words word between xs)
+separated_words : {X : Type 0} (word : X → Text) (between : Text) (xs : List X)
+    → join_by word between xs ≡ separated between (map word xs)
+separated_words word between [] = refl
+separated_words word between (x ∷ xs) = ap (λ more. word x ++ more) (later_words word between xs)
 
 -- all words are there
 pub all_words : {Y X : Type 0} (word : X → Text) (between : Text) (words : List (String Y)) (xs : List X) (k : ℕ)
     → map string_bytes words ≡ map word (take k xs) → length xs ≤ k
-    → join_by string_bytes between words ≡ joined between (map word xs)
+    → join_by string_bytes between words ≡ separated between (map word xs)
 all_words word between words xs k same all =
-    joined_words string_bytes between words ∙ ap (joined between) (same ∙ ap (map word) (take_all k xs all))
+    separated_words string_bytes between words ∙ ap (separated between) (same ∙ ap (map word) (take_all k xs all))
 
 -- one more word
 pub one_more_word : {Y X : Type 0} (word : X → Text) (words : List (String Y)) (made : String Y)
