@@ -5,7 +5,7 @@ use Rattle.std.proofs.lemmas.Int.Digits.{digits_value_more}
 use Rattle.std.proofs.lemmas.Str.Parse.{digits_value-take-le}
 use Rattle.std.specs.Char.{digit_value}
 use Rattle.std.specs.Str.Parse.{digits_value}
-use Rattle.hz_value.specs.Numbers.{max_safe}
+use Rattle.hz_list.specs.declared.limits.TheConstants.{MAX_SAFE}
 use Rattle.hz_value.specs.NumberTexts.{are_digits, natural_of}
 
 -- one more digit
@@ -22,5 +22,5 @@ digits_value_step radix value digit us i within before last =
 
 -- a front that writes too large a number makes the whole too large
 pub natural_too_large : (radix value : ℕ) (us : List ℕ) (i : ℕ) → 1 ≤ radix →
-    value ≡ digits_value radix (take i us) → max_safe < value → natural_of radix us ≡ None
+    value ≡ digits_value radix (take i us) → MAX_SAFE < value → natural_of radix us ≡ None
 natural_too_large radix value us i some is large = grind (arith, digits_value-take-le radix us i some)

@@ -2,7 +2,7 @@
 use Rattle.std.specs.Prelude.{ℕ, List, codes}
 use Rattle.hz_value.specs.declared.leaving.Left.{Left}
 use Rattle.hz_value.specs.declared.leaving.Left.TheVariants.{NotSafe, Missing, Wrapper, ZeroSign, CaseMapping}
-use Rattle.hz_value.specs.declared.leaving.Left.TheVariants.{TooDeep, LongLine}
+use Rattle.hz_value.specs.declared.leaving.Left.TheVariants.{TooDeep, LongLine, NotBuilt}
 
 -- the bytes of the reason's name
 abbrev pub name_of_left : Left → List ℕ
@@ -13,3 +13,4 @@ name_of_left ZeroSign = codes "ZeroSign"
 name_of_left CaseMapping = codes "CaseMapping"
 name_of_left TooDeep = codes "TooDeep"
 name_of_left LongLine = codes "LongLine"
+name_of_left NotBuilt = codes "NotBuilt"

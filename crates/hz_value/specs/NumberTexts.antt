@@ -5,7 +5,7 @@ use Rattle.std.specs.Prelude.{None, List, [], ◌∷◌, reverse, length, option
 use Rattle.std.specs.List.{list_all}
 use Rattle.std.specs.Char.{digit_value}
 use Rattle.std.specs.Str.Parse.{digits_value}
-use Rattle.hz_value.specs.Numbers.{max_safe}
+use Rattle.hz_list.specs.declared.limits.TheConstants.{MAX_SAFE}
 
 -- the units that ECMA-262 calls WhiteSpace (12.2) or LineTerminator (12.3)
 abbrev pub is_blank : ℕ → Bool
@@ -28,7 +28,7 @@ are_digits radix us = list_all (λ u. nat_lt (digit_value u) radix) us
 -- the number that one or more digits write, where it is safe
 abbrev pub natural_of : ℕ → List ℕ → Option ℕ
 natural_of radix us =
-    if nat_lt 0 (length us) && are_digits radix us && nat_le (digits_value radix us) max_safe
+    if nat_lt 0 (length us) && are_digits radix us && nat_le (digits_value radix us) MAX_SAFE
     then Some (digits_value radix us) else None
 
 -- the radix that the unit behind a leading `0` tells: `x` or `X`, `o` or `O`, `b` or `B`

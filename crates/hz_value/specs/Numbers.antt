@@ -1,21 +1,18 @@
 -- The numbers of a script and their operators, over the integers.
 -- They are ECMA-262's operators on mathematical values (6.1.6.1 and 7.1.6 to 7.1.7), kept to safe integers
 -- (21.1.2.6 and 21.1.2.8) with one zero: an operator gives None where ECMA-262's result is no safe integer.
-use Rattle.std.specs.Prelude.{ℕ, suc, ◌≤◌, ℤ, pos, negsuc, ◌+ℤ◌, ◌-ℤ◌, ◌*ℤ◌, neg_ℤ, Bool, nat_le, ◌==◌, if◌then◌else◌}
+use Rattle.std.specs.Prelude.{suc, ◌≤◌, ℤ, pos, negsuc, ◌+ℤ◌, ◌-ℤ◌, ◌*ℤ◌, neg_ℤ, Bool, nat_le, ◌==◌, if◌then◌else◌}
 use Rattle.std.specs.Prelude.{Option, Some, None, unsigned_abs, int_lt, int_div, int_rem}
 use Rattle.std.specs.Int.{int_div_euclid, int_rem_euclid, int_pow}
+use Rattle.hz_list.specs.declared.limits.TheConstants.{MAX_SAFE}
 
--- the greatest safe integer, 2 ^ 53 - 1
-abbrev pub max_safe : ℕ
-max_safe = 9007199254740991
-
--- z lies from -max_safe to max_safe
+-- z lies from -MAX_SAFE to MAX_SAFE
 abbrev pub IsSafe : ℤ → Type 0
-IsSafe z = unsigned_abs z ≤ max_safe
+IsSafe z = unsigned_abs z ≤ MAX_SAFE
 
 -- z where it is safe
 abbrev pub safe : ℤ → Option ℤ
-safe z = if nat_le (unsigned_abs z) max_safe then Some z else None
+safe z = if nat_le (unsigned_abs z) MAX_SAFE then Some z else None
 
 abbrev pub is_zero : ℤ → Bool
 is_zero z = unsigned_abs z == 0

@@ -14,10 +14,8 @@ ghost use Rattle.hz_value.specs.Numbers.{
   unsigned_32,
 };
 
+use hz_list::MAX_SAFE;
 use std::marker::Model;
-
-/// The greatest safe integer (ECMA-262, 21.1.2.6): `max_safe` of `specs/Numbers.antt`.
-pub const MAX_SAFE: u64 = 9007199254740991;
 
 const TWO_TO_31: i64 = 2147483648;
 

@@ -20,6 +20,8 @@ pub enum Left {
     TooDeep,
     /// A line of input of more than 16,777,215 bytes.
     LongLine,
+    /// A construct, or a built-in name, that this compiler will carry out and does not yet.
+    NotBuilt,
 }
 
 impl Left {
@@ -36,6 +38,7 @@ impl Left {
             Left::CaseMapping => "CaseMapping",
             Left::TooDeep => "TooDeep",
             Left::LongLine => "LongLine",
+            Left::NotBuilt => "NotBuilt",
         }
     }
 }

@@ -1,32 +1,27 @@
 // The values of a script: safe integers with their operators, texts of UTF-16 units, and the reasons for
-// which a run is left. Beside them what every layer takes: the list of items, the want of memory, and the
-// count of steps.
+// which a run is left. What `hz_list` has can be had from here too.
 //
 // The layer above relies on this: each operator is the one of `specs/Numbers.antt` over the integers, and
 // gives None exactly where that has no result. No operator takes memory. A text is the list of its units.
 //
-// Each list type is a `Series`. What a list or a `Vec` answers where memory runs out becomes `Memory` here,
-// so a fault of a higher layer needs one way alone: an `impl From<Memory>`.
+// The definitions of what a script does begin here too: `specs/operators` has conversions and operators on all
+// values, `specs/world` what a run works on, and `specs/system` how it goes on, whatever a function's meaning is.
+// `laws` says that a run has one outcome, that its events only grow and that its turns only fall.
 #![tactic(auto)]
 
-mod code_units;
 mod integers;
+mod laws;
 mod leaving;
 mod number_texts;
-mod out_of_memory;
 mod powers;
-mod series;
-mod steps;
 mod values;
 
-pub use code_units::Units;
+pub use hz_list::{MAX_SAFE, Memory, Series, Steps, Units};
 pub use integers::{
-    MAX_SAFE, Safe, add, div, floor_quot, int32, mul, quot_or_zero, rem, sub, trunc_quot, uint32,
+    Safe, add, div, floor_quot, int32, mul, quot_or_zero, rem, sub, trunc_quot, uint32,
 };
+pub use laws::{ended_stays, events_grow, one_outcome, turns_fall};
 pub use leaving::Left;
 pub use number_texts::{number_text, text_number};
-pub use out_of_memory::Memory;
 pub use powers::pow;
-pub use series::Series;
-pub use steps::Steps;
-pub use values::Value;
+pub use values::{Key, Property, Value};

@@ -11,7 +11,6 @@ ghost use Rattle.std.specs.Prelude.{
 };
 ghost use Rattle.std.specs.Fmt.{signed_decimal};
 ghost use Rattle.std.specs.Char as char;
-ghost use Rattle.hz_value.specs.Numbers.{max_safe};
 ghost use Rattle.hz_value.specs.NumberTexts.{
   is_blank,
   trim_front,
@@ -20,9 +19,8 @@ ghost use Rattle.hz_value.specs.NumberTexts.{
   text_value,
 };
 
-use crate::code_units::Units;
-use crate::integers::{MAX_SAFE, Safe};
-use crate::out_of_memory::Memory;
+use crate::integers::Safe;
+use hz_list::{MAX_SAFE, Memory, Units};
 use itoa::Buffer;
 use std::alloc::Global;
 
@@ -55,7 +53,7 @@ pub fn text_number(t: &Units) -> Option<Safe>
 }
 
 fn positive(magnitude: Option<u64>) -> Option<Safe>
-    requires { IfSome magnitude (λ n. n ≤ max_safe) }
+    requires { IfSome magnitude (λ n. n ≤ MAX_SAFE) }
     ensures { result ≡ option_map pos magnitude }
 {
     match magnitude {
@@ -65,7 +63,7 @@ fn positive(magnitude: Option<u64>) -> Option<Safe>
 }
 
 fn negative(magnitude: Option<u64>) -> Option<Safe>
-    requires { IfSome magnitude (λ n. n ≤ max_safe) }
+    requires { IfSome magnitude (λ n. n ≤ MAX_SAFE) }
     ensures { result ≡ option_map (λ n. neg_ℤ (pos n)) magnitude }
 {
     match magnitude {
@@ -76,7 +74,7 @@ fn negative(magnitude: Option<u64>) -> Option<Safe>
 
 fn unsigned(text: &[u16]) -> Option<u64>
     ensures value { result ≡ unsigned_of text.now }
-    ensures bound { IfSome result (λ n. n ≤ max_safe) }
+    ensures bound { IfSome result (λ n. n ≤ MAX_SAFE) }
 {
     match text {
         // behind the 0 stands an x, an o or a b, in either case
@@ -92,7 +90,7 @@ fn natural(radix: u64, digits: &[u16]) -> Option<u64>
     requires least { 2 ≤ radix }
     requires most { radix ≤ 16 }
     ensures value { result ≡ natural_of radix digits.now }
-    ensures bound { IfSome result (λ n. n ≤ max_safe) }
+    ensures bound { IfSome result (λ n. n ≤ MAX_SAFE) }
 {
     if digits.is_empty() {
         return None;
