@@ -6,12 +6,13 @@ use Rattle.hz_tree.specs.declared.symbol.Symbol.TheVariants as s
 use Rattle.hz_tree.specs.declared.tree.Tree.{Tree}
 use Rattle.hz_tree.specs.tokens.Text.{Text}
 use Rattle.hz_tree.specs.grammar.Look.{Terminal}
-use Rattle.hz_tree.specs.reading.Reading.{Reading, Got, Stuck, Deeper, place_ahead, reads, Event}
+use Rattle.hz_tree.specs.grammar.Signals.{Event}
+use Rattle.hz_tree.specs.reading.Reading.{Reading, Got, Stuck, Deeper, place_ahead, reads}
 use Rattle.hz_tree.specs.reading.Stack.{Verdict, Through, At, Lost, ends}
 use Rattle.hz_tree.specs.trees.Events.{events_of}
 use Rattle.hz_tree.specs.trees.Drafts.{built, begun}
 use Rattle.hz_tree.specs.sources.Refusals.{refusal_at, refusal_by, functions_by}
-use Rattle.hz_laws.proofs.Told.{tell}
+use Rattle.hz_laws.proofs.Told.{tell_reading}
 use Rattle.hz_laws.proofs.RowLaws.{tells_tree}
 use Rattle.hz_laws.proofs.StackLaws.{verdict_one, ends_whole}
 use Rattle.hz_laws.proofs.Tied.{built_is}
@@ -22,7 +23,7 @@ verdict_of (Got tree rest) = Through (events_of tree) rest
 verdict_of (Stuck cause ts) = At cause ts
 verdict_of Deeper = Lost
 
-verdict_told : (r : Reading Tree) → verdict_one (s.Read n.Script) (tell n.Script r) ≡ verdict_of r
+verdict_told : (r : Reading Tree) → verdict_one (s.Read n.Script) (tell_reading n.Script r) ≡ verdict_of r
 verdict_told (Got tree rest) = refl
 verdict_told (Stuck cause ts) = refl
 verdict_told Deeper = refl

@@ -65,9 +65,7 @@ pub one_within : {Value : Nonterminal → Type 0} (reads : Reader Value)
     → (symbol : Symbol) (ts : List Terminal) → Within (eats_symbol symbol) (length ts) (read_one reads symbol ts)
 one_within reads shorter (s.Take wanted) ts = takes_within wanted ts
 one_within reads shorter (s.Read m) ts = shorter m ts
-one_within reads shorter (s.Open kind) ts = omega arith
-one_within reads shorter s.Count ts = omega arith
-one_within reads shorter s.Close ts = omega arith
+one_within reads shorter (s.Tell signal) ts = omega arith
 
 pub all_within : {Value : Nonterminal → Type 0} (reads : Reader Value)
     → ((m : Nonterminal) (us : List Terminal) → Within (eats m) (length us) (reads m us))
@@ -150,9 +148,7 @@ module _ {Value : Nonterminal → Type 0} (reads : Reader Value) (d : ℕ)
   free_one : (symbol : Symbol) (us : List Terminal) → 16 * length us + 16 ≤ d → Ends (read_one reads symbol us)
   free_one (s.Take wanted) us h = takes_ends wanted us
   free_one (s.Read m) us h = reached m us (omega (arith, rank_small m))
-  free_one (s.Open kind) us h = tt
-  free_one s.Count us h = tt
-  free_one s.Close us h = tt
+  free_one (s.Tell signal) us h = tt
 
   free : (right : List Symbol) (us : List Terminal) → 16 * length us + 16 ≤ d → Ends (read_all reads right us)
   free [] us h = tt
@@ -185,9 +181,7 @@ module _ {Value : Nonterminal → Type 0} (reads : Reader Value) (d : ℕ)
       (λ v rest w. ends_map (λ vs. (v, vs)) (read_all reads more rest)
       (led_rest limit (eats m) more us rest (and_right (nat_lt (rank m) limit) (eats m || falls limit more) f) h w
       (led limit more rest)))
-  led limit (s.Open kind ∷ more) us f h = ends_map _ (read_all reads more us) (led limit more us f h)
-  led limit (s.Count ∷ more) us f h = ends_map _ (read_all reads more us) (led limit more us f h)
-  led limit (s.Close ∷ more) us f h = ends_map _ (read_all reads more us) (led limit more us f h)
+  led limit (s.Tell signal ∷ more) us f h = ends_map _ (read_all reads more us) (led limit more us f h)
 
   row_ends : (m : Nonterminal) (r : RowOf Value m) → is_fine m (step_of r) ≡ true → (ts : List Terminal)
       → 16 * length ts + rank m ≤ d → Ends (by_row reads m r ts)
@@ -219,9 +213,7 @@ module _ {Value : Nonterminal → Type 0} (reads reads' : Reader Value)
       → read_one reads' symbol us ≡ read_one reads symbol us
   agree_one (s.Take wanted) us h = refl
   agree_one (s.Read m) us h = agree m us h
-  agree_one (s.Open kind) us h = refl
-  agree_one s.Count us h = refl
-  agree_one s.Close us h = refl
+  agree_one (s.Tell signal) us h = refl
 
   pub agree_all : (right : List Symbol) (us : List Terminal) → Ends (read_all reads right us)
       → read_all reads' right us ≡ read_all reads right us

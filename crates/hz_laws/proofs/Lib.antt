@@ -8,7 +8,8 @@ pub mod Made
 pub mod RowLaws
 pub mod ReadingLaws
 pub mod StackLaws
-pub mod TurnLaws
+pub mod MoveLaws
+pub mod Heard
 pub mod Tied
 pub mod Answers
 pub mod Starts

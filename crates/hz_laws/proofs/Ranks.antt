@@ -2,6 +2,8 @@
 use Rattle.std.proofs.Common.{◌≡◌, ℕ, ◌<◌, Bool, true, false, not, ◌&&◌, ◌||◌, nat_lt, List, [], ◌∷◌, refl, arith}
 use Rattle.hz_tree.specs.declared.nonterminal.Nonterminal.{Nonterminal}
 use Rattle.hz_tree.specs.declared.nonterminal.Nonterminal.TheVariants as n
+use Rattle.hz_tree.specs.declared.signal.Signal.{Signal}
+use Rattle.hz_tree.specs.declared.signal.Signal.TheVariants as tell
 use Rattle.hz_tree.specs.declared.symbol.Symbol.{Symbol}
 use Rattle.hz_tree.specs.declared.symbol.Symbol.TheVariants as s
 use Rattle.hz_tree.specs.grammar.Table.{Step, pushes, fails}
@@ -11,18 +13,18 @@ rank n.Script = 6
 rank (n.Items _) = 5
 rank (n.Item _) = 4
 rank (n.Statement _) = 3
-rank (n.Binds _) = 2
-rank (n.Bind _) = 1
+rank (n.Binds _ _) = 2
+rank (n.Bind _ _) = 1
 rank (n.ReturnValue _) = 3
 rank (n.ThrowValue _) = 3
 rank (n.Handlers _) = 1
 rank (n.Head _) = 3
-rank (n.DeclaredHead _) = 1
+rank (n.DeclaredHead _ _) = 1
 rank (n.LeftHead _) = 2
 rank (n.OptionalExpr _) = 3
 rank (n.Expr _) = 2
 rank (n.Operation _ _) = 1
-rank (n.Rests _ _ _) = 1
+rank (n.Tails _ _ _) = 1
 rank (n.ArrowBody _) = 2
 rank (n.YieldValue _) = 2
 rank (n.OptionalTail _) = 1
@@ -34,6 +36,7 @@ rank (n.Props _) = 3
 rank (n.Prop _) = 2
 rank (n.KeyRest _) = 1
 rank (n.Key _) = 1
+rank n.OwnName = 1
 rank n.Parameters = 1
 rank _ = 0
 
@@ -43,14 +46,14 @@ eats n.Script = true
 eats (n.Item _) = true
 eats (n.Statement _) = true
 eats (n.Block _) = true
-eats (n.Binds _) = true
-eats (n.Bind _) = true
-eats n.Bound = true
+eats (n.Binds _ _) = true
+eats (n.Bind _ _) = true
+eats (n.Bound _) = true
 eats (n.ThrowValue _) = true
 eats (n.CatchClause _) = true
 eats n.ForOpen = true
 eats (n.Head _) = true
-eats (n.DeclaredHead _) = true
+eats (n.DeclaredHead _ _) = true
 eats (n.LeftHead _) = true
 eats (n.Expr _) = true
 eats (n.Operation _ _) = true
@@ -83,9 +86,7 @@ abbrev pub falls : (limit : ℕ) → List Symbol → Bool
 falls limit [] = true
 falls limit (s.Take wanted ∷ more) = true
 falls limit (s.Read nonterminal ∷ more) = nat_lt (rank nonterminal) limit && (eats nonterminal || falls limit more)
-falls limit (s.Open kind ∷ more) = falls limit more
-falls limit (s.Count ∷ more) = falls limit more
-falls limit (s.Close ∷ more) = falls limit more
+falls limit (s.Tell signal ∷ more) = falls limit more
 
 abbrev pub is_fine : Nonterminal → Step → Bool
 is_fine nonterminal (pushes right) = falls (rank nonterminal) right && (not (eats nonterminal) || eats_all right)
@@ -99,19 +100,24 @@ rank_small _ = omega arith
 
 -- nonterminals that begin with a token of their own
 abbrev pub leads : Nonterminal → Bool
-leads n.Bound = true
+leads (n.Bound _) = true
 leads n.Params = true
 leads _ = false
 
+abbrev pub opens : Signal → Bool
+opens (tell.Open node kind) = true
+opens _ = false
+
 abbrev pub leads_all : List Symbol → Bool
+leads_all [] = false
 leads_all (s.Take wanted ∷ more) = true
 leads_all (s.Read nonterminal ∷ more) = leads nonterminal
-leads_all _ = false
+leads_all (s.Tell signal ∷ more) = not (opens signal) && leads_all more
 
 -- a token is taken behind each function that opens, before another one does
 abbrev pub opens_well : List Symbol → Bool
 opens_well [] = true
-opens_well (s.Open kind ∷ more) = leads_all more && opens_well more
+opens_well (s.Tell signal ∷ more) = (not (opens signal) || leads_all more) && opens_well more
 opens_well (_ ∷ more) = opens_well more
 
 abbrev pub is_open : Nonterminal → Step → Bool

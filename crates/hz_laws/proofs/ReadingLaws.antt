@@ -28,9 +28,7 @@ module _ {Value : Nonterminal → Type 0} (reads reads' : Reader Value) (bound :
       → read_one reads symbol us ≡ read_one reads' symbol us
   same_one (s.Take wanted) us h = refl
   same_one (s.Read m) us h = same m us h
-  same_one (s.Open kind) us h = refl
-  same_one s.Count us h = refl
-  same_one s.Close us h = refl
+  same_one (s.Tell signal) us h = refl
 
   same_all : (right : List Symbol) (us : List Terminal) → length us ≤ bound
       → read_all reads right us ≡ read_all reads' right us

@@ -1,7 +1,8 @@
 -- Every row of the grammar lets ranks fall until a token is taken, opens a function at a token that it takes, and makes
 -- what tells what its parts tell.
-use Rattle.std.proofs.Common.{◌≡◌, Bool, true, false, not, ◌&&◌, if◌then◌else◌, List, Option, Some, None, refl, ◌∙◌}
-use Rattle.std.proofs.Common.{rules}
+use Rattle.std.proofs.Common.{◌≡◌, Bool, true, false, not, ◌&&◌, ◌||◌, if◌then◌else◌, nat_lt, List, [], ◌∷◌, Option}
+use Rattle.std.proofs.Common.{Some, None, refl, ap, ◌∙◌, append-nil, arith, rules}
+use Rattle.std.proofs.lemmas.Bool.Decides.{nat_tests}
 use Rattle.hz_tree.specs.declared.class.Class.{Class}
 use Rattle.hz_tree.specs.declared.class.Class.TheVariants as k
 use Rattle.hz_tree.specs.declared.nonterminal.Context.{Context}
@@ -9,28 +10,37 @@ use Rattle.hz_tree.specs.declared.nonterminal.Nonterminal.{Nonterminal}
 use Rattle.hz_tree.specs.declared.nonterminal.Nonterminal.TheVariants as n
 use Rattle.hz_tree.specs.declared.operator.AssignOperator.{AssignOperator}
 use Rattle.hz_tree.specs.declared.operator.BinaryOperator.{BinaryOperator}
+use Rattle.hz_tree.specs.declared.operator.DeclarationWord.{DeclarationWord}
+use Rattle.hz_tree.specs.declared.operator.DeclarationWord.TheVariants as word
 use Rattle.hz_tree.specs.declared.operator.Level.{Level}
+use Rattle.hz_tree.specs.declared.operator.Level.TheVariants as level
 use Rattle.hz_tree.specs.declared.operator.UnaryOperator.{UnaryOperator}
 use Rattle.hz_tree.specs.declared.operator.UpdateOperator.{UpdateOperator}
+use Rattle.hz_tree.specs.declared.symbol.Symbol.{Symbol}
+use Rattle.hz_tree.specs.declared.symbol.Symbol.TheVariants as s
+use Rattle.hz_tree.specs.declared.tree.Tree.{Tree}
 use Rattle.hz_tree.specs.declared.tree.Tree.TheVariants as t
 use Rattle.hz_tree.specs.grammar.Classes.{is_name, is_of, is_colon, begins_key, is_async_word, is_paren}
 use Rattle.hz_tree.specs.declared.look.Look.{Look}
 use Rattle.hz_tree.specs.grammar.Look.{Terminal, is_async, begins_arrow}
 use Rattle.hz_tree.specs.grammar.Operators.{assign_operator, binary_operator, unary_operator, update_operator}
-use Rattle.hz_tree.specs.grammar.Symbols.{Row}
+use Rattle.hz_tree.specs.grammar.Symbols.{Row, goes, refuses}
+use Rattle.hz_tree.specs.grammar.ExpressionRows.{expr_end}
 use Rattle.hz_tree.specs.grammar.HeadRows.{is_no_left, head_by}
-use Rattle.hz_tree.specs.grammar.OperatorRows.{reads_on, operator_row, rest_row, arrow_row, operand_row, operation_by}
-use Rattle.hz_tree.specs.grammar.OperatorRows.{is_loosest}
+use Rattle.hz_tree.specs.grammar.OperatorRows.{reads_on, operator_row, rest_row, rests_row, arrow_row, operand_row}
+use Rattle.hz_tree.specs.grammar.OperatorRows.{operation_by, is_loosest, without_tails, tails_end, tails_by}
 use Rattle.hz_tree.specs.grammar.PrimaryRows.{new_row, function_expression_row, primary_by}
 use Rattle.hz_tree.specs.grammar.PropertyRows.{plain_prop_row, getter_row, setter_row, prop_by}
-use Rattle.hz_tree.specs.grammar.StatementRows.{return_row, statement_by}
+use Rattle.hz_tree.specs.grammar.StatementRows.{declaration_row, no_value, return_row, statement_by}
 use Rattle.hz_tree.specs.grammar.Table.{row, step_of}
-use Rattle.hz_tree.specs.reading.Reading.{reads, tells}
-use Rattle.hz_laws.proofs.Ranks.{is_fine, is_open, and_left, and_right}
+use Rattle.hz_tree.specs.reading.Reading.{Got, reads, tells}
+use Rattle.hz_tree.specs.trees.Events.{events_of}
+use Rattle.hz_laws.proofs.Ranks.{rank, eats, falls, opens_well, is_fine, is_open, and_left, and_right}
 use Rattle.hz_laws.proofs.Depth.{Fine}
-use Rattle.hz_laws.proofs.Told.{TellsRow, tell, tells_by}
+use Rattle.hz_laws.proofs.Told.{TellsRow, tell_reading, tells_by}
 use Rattle.hz_laws.proofs.TreeLaws.{told_out, told_next}
-use Rattle.hz_laws.proofs.Made.{made_operated, told_one, told_two, row_laws, made_laws}
+use Rattle.hz_laws.proofs.Made.{told_Bind, told_Return, told_If, told_Try, told_Yield, told_New}
+use Rattle.hz_laws.proofs.Made.{made_applied, made_for, told_one, row_laws, made_laws}
 
 abbrev pub Lawful : (m : Nonterminal) → Row m → Type 0
 Lawful m r = ((is_fine m (step_of r) && is_open m (step_of r)) ≡ true) × TellsRow m r
@@ -42,23 +52,38 @@ lawful_if m false a b h i = i
 -- ---- rows that test more than one class
 
 return_lawful : (c : Context) (returns : Bool) → Lawful (n.Statement c) (return_row c returns)
-return_lawful c true = (refl, λ p. told_out _ ∙ simp made_laws)
+return_lawful c true = (refl, λ p. told_Return _ _)
 return_lawful c false = (refl, λ p. first_of (simp row_laws, search rules))
 
 statement_lawful : (c : Context) (l : Look) (one : Class) → Lawful (n.Statement c) (statement_by c l one)
-statement_lawful c l k.LeftBrace = (refl, λ p. first_of (simp row_laws, search rules))
+statement_lawful c l k.LeftBrace = (refl, λ p. told_one _)
+statement_lawful c l k.For = (refl, λ p. made_for _ _)
+statement_lawful c l k.If = (refl, λ p. told_If _ _ _ _ ∙ simp row_laws)
+statement_lawful c l k.Try = (refl, λ p. told_Try _ _ _ _ ∙ simp row_laws)
 statement_lawful c l k.Return = return_lawful c c.returns
 statement_lawful c l k.Function = (refl, λ p. first_of (simp row_laws, search rules))
 statement_lawful c l _ = (refl, λ p. told_out _ ∙ simp made_laws)
+
+declaration_lawful : (c : Context) (two : Class) → Lawful (n.Item c) (declaration_row c two)
+declaration_lawful c k.Star = (refl, λ p. told_out _ ∙ simp made_laws)
+declaration_lawful c _ = (refl, λ p. told_out _ ∙ simp made_laws)
+
+no_value_lawful : (word : DeclarationWord) (c : Context) → Lawful (n.Initial word c) (no_value word c)
+no_value_lawful word.Const c = (refl, λ p. refl)
+no_value_lawful _ c = (refl, λ p. refl)
+
+expr_end_lawful : (listed : Bool) (c : Context) → Lawful (n.ExprRest listed c) (expr_end listed c)
+expr_end_lawful true c = (refl, λ p. refl)
+expr_end_lawful false c = (refl, λ p. refl)
 
 head_lawful : (c : Context) (l : Look) (one : Class) → Lawful (n.Head c) (head_by c l one)
 head_lawful c l k.Var = (refl, λ p. first_of (simp row_laws, search rules))
 head_lawful c l k.Let = (refl, λ p. first_of (simp row_laws, search rules))
 head_lawful c l k.Const = (refl, λ p. first_of (simp row_laws, search rules))
-head_lawful c l k.Semicolon = (refl, λ p. told_out _ ∙ simp made_laws)
+head_lawful c l k.Semicolon = (refl, λ p. first_of (simp row_laws, search rules))
 head_lawful c l _ =
     lawful_if (n.Head c) (is_async_word l.one && is_of l.two) _ _ (refl, λ p. first_of (simp row_laws, search rules))
-    (lawful_if (n.Head c) (is_no_left c l) _ _ (refl, λ p. told_out _ ∙ simp made_laws)
+    (lawful_if (n.Head c) (is_no_left c l) _ _ (refl, λ p. first_of (simp row_laws, search rules))
     (refl, λ p. first_of (simp row_laws, search rules)))
 
 operator_lawful : (loosest tightest : Level) (c : Context) (one : Class) (assigned : Option AssignOperator)
@@ -72,41 +97,83 @@ operator_lawful loosest tightest c one None None None = (refl, λ p. first_of (s
 
 rest_lawful : (loosest tightest : Level) (c : Context) (one : Class)
     → Lawful (n.Rests loosest tightest c) (rest_row loosest tightest c one)
-rest_lawful loosest tightest c k.Dot = (refl, λ p. told_next _ _ ∙ simp made_laws)
-rest_lawful loosest tightest c k.LeftBracket = (refl, λ p. told_next _ _ ∙ simp made_laws)
-rest_lawful loosest tightest c k.LeftParen = (refl, λ p. first_of (simp row_laws, search rules))
-rest_lawful loosest tightest c k.OptionalDot = (refl, λ p. told_next _ _ ∙ simp made_laws)
-rest_lawful loosest tightest c k.TemplateWhole = (refl, λ p. first_of (simp row_laws, search rules))
-rest_lawful loosest tightest c k.TemplateHead = (refl, λ p. first_of (simp row_laws, search rules))
 rest_lawful loosest tightest c k.Question = (refl, λ p. first_of (simp row_laws, search rules))
 rest_lawful loosest tightest c one =
     operator_lawful loosest tightest c one (assign_operator one) (update_operator one) (binary_operator one)
 
+rests_lawful : (loosest tightest : Level) (c : Context) (l : Look)
+    → Lawful (n.Rests loosest tightest c) (rests_row loosest tightest c l)
+rests_lawful loosest tightest c l =
+    lawful_if (n.Rests loosest tightest c) (reads_on loosest tightest c l.one_newline l.one) _ _
+    (rest_lawful loosest tightest c l.one) (refl, λ p. first_of (simp row_laws, search rules))
+
+-- a right-hand side that reads nothing before it takes a token is fine for a higher rank too
+falls_more : (right : List Symbol) → falls 0 right ≡ true → falls 1 right ≡ true
+falls_more [] h = refl
+falls_more (s.Take wanted ∷ more) h = refl
+falls_more (s.Read m ∷ more) h = grind (arith, nat_tests, and_left (nat_lt (rank m) 0) (eats m || falls 0 more) h)
+falls_more (s.Tell signal ∷ more) h = falls_more more h
+
+fine_more : (right : List Symbol) → ((falls 0 right && true) && (opens_well right && true)) ≡ true
+    → ((falls 1 right && true) && (opens_well right && true)) ≡ true
+fine_more right h =
+    let opens : (opens_well right && true) ≡ true = and_right (falls 0 right && true) (opens_well right && true) h in
+    rw (falls_more right (and_left (falls 0 right) true
+    (and_left (falls 0 right && true) (opens_well right && true) h))) opens
+
+without_lawful : (loosest : Level) (c : Context) (r : Row (n.Rests loosest level.Update c))
+    → Lawful (n.Rests loosest level.Update c) r → Lawful (n.Tails false loosest c) (without_tails loosest c r)
+without_lawful loosest c (goes right make) h = (fine_more right h.0, h.1)
+without_lawful loosest c (refuses cause) h = (refl, h.1)
+
+tails_end_lawful : (tailed : Bool) (loosest : Level) (c : Context) (l : Look)
+    → Lawful (n.Tails tailed loosest c) (tails_end tailed loosest c l)
+tails_end_lawful true loosest c l = (refl, λ p. first_of (simp row_laws, search rules))
+tails_end_lawful false loosest c l =
+    without_lawful loosest c (rests_row loosest level.Update c l) (rests_lawful loosest level.Update c l)
+
+tails_lawful : (tailed : Bool) (loosest : Level) (c : Context) (l : Look) (one : Class)
+    → Lawful (n.Tails tailed loosest c) (tails_by tailed loosest c l one)
+tails_lawful tailed loosest c l k.Dot = (refl, λ p. simp row_laws)
+tails_lawful tailed loosest c l k.LeftBracket = (refl, λ p. simp row_laws)
+tails_lawful tailed loosest c l k.LeftParen = (refl, λ p. first_of (simp row_laws, search rules))
+tails_lawful tailed loosest c l k.OptionalDot = (refl, λ p. simp row_laws)
+tails_lawful tailed loosest c l k.TemplateWhole = (refl, λ p. first_of (simp row_laws, search rules))
+tails_lawful tailed loosest c l k.TemplateHead = (refl, λ p. first_of (simp row_laws, search rules))
+tails_lawful tailed loosest c l _ = tails_end_lawful tailed loosest c l
+
 arrow_lawful : (loosest : Level) (c : Context) (parenthesised : Bool)
     → Lawful (n.Operation loosest c) (arrow_row loosest c parenthesised)
-arrow_lawful loosest c true = (refl, λ p. first_of (simp row_laws, search rules))
-arrow_lawful loosest c false = (refl, λ p. first_of (simp row_laws, search rules))
+arrow_lawful loosest c true = (refl, λ p. told_out _ ∙ simp made_laws)
+arrow_lawful loosest c false = (refl, λ p. told_out _ ∙ simp made_laws)
 
 operand_lawful : (loosest : Level) (c : Context) (one : Class) (operator : Option UnaryOperator)
     → Lawful (n.Operation loosest c) (operand_row loosest c one operator)
-operand_lawful loosest c one (Some operator) =
-    (refl, λ p. made_operated (t.Unary p.0.token.at operator p.1.0) p.1.1.0 ∙ told_next _ _ ∙ simp made_laws)
+operand_lawful loosest c one (Some operator) = (
+  refl,
+  λ p.
+      made_applied p.1.1.1.1.1.1.0 (t.Unary p.0.at operator p.1.1.0) ∙ told_next _ _ ∙ simp made_laws,
+)
 operand_lawful loosest c one None = (refl, λ p. first_of (simp row_laws, search rules))
 
 operation_lawful : (loosest : Level) (c : Context) (yields : Bool) (one : Class)
     → Lawful (n.Operation loosest c) (operation_by loosest c yields one)
-operation_lawful loosest c true k.Yield = (refl, λ p. told_out _ ∙ simp made_laws)
+operation_lawful loosest c true k.Yield = (refl, λ p. told_Yield _ _ _)
 operation_lawful loosest c yields one = operand_lawful loosest c one (unary_operator one)
 
 new_lawful : (c : Context) (two : Class) → Lawful (n.Primary c) (new_row c two)
 new_lawful c k.Dot = (refl, λ p. told_out _ ∙ simp made_laws)
-new_lawful c _ = (refl, λ p. told_out _ ∙ simp made_laws)
+new_lawful c _ = (refl, λ p. told_New _ _ _ _ ∙ simp row_laws)
 
 function_lawful : (c : Context) (two : Class) → Lawful (n.Primary c) (function_expression_row c two)
-function_lawful c k.Star = (refl, λ p. first_of (simp row_laws, search rules))
-function_lawful c _ = (refl, λ p. first_of (simp row_laws, search rules))
+function_lawful c k.Star = (refl, λ p. told_out _ ∙ simp made_laws)
+function_lawful c _ = (refl, λ p. told_out _ ∙ simp made_laws)
 
 primary_lawful : (c : Context) (l : Look) (one : Class) → Lawful (n.Primary c) (primary_by c l one)
+primary_lawful c l k.Slash = (refl, λ p. first_of (simp row_laws, search rules))
+primary_lawful c l k.SlashAssign = (refl, λ p. first_of (simp row_laws, search rules))
+primary_lawful c l k.New = new_lawful c l.two
+primary_lawful c l k.Function = function_lawful c l.two
 primary_lawful c l k.This = (refl, λ p. told_out _ ∙ simp made_laws)
 primary_lawful c l k.Null = (refl, λ p. told_out _ ∙ simp made_laws)
 primary_lawful c l k.True = (refl, λ p. told_out _ ∙ simp made_laws)
@@ -119,10 +186,6 @@ primary_lawful c l k.TemplateWhole = (refl, λ p. told_out _ ∙ simp made_laws)
 primary_lawful c l k.TemplateHead = (refl, λ p. told_out _ ∙ simp made_laws)
 primary_lawful c l k.LeftBracket = (refl, λ p. told_out _ ∙ simp made_laws)
 primary_lawful c l k.LeftBrace = (refl, λ p. told_out _ ∙ simp made_laws)
-primary_lawful c l k.Slash = (refl, λ p. first_of (simp row_laws, search rules))
-primary_lawful c l k.SlashAssign = (refl, λ p. first_of (simp row_laws, search rules))
-primary_lawful c l k.New = new_lawful c l.two
-primary_lawful c l k.Function = function_lawful c l.two
 primary_lawful c l _ =
     lawful_if (n.Primary c) (is_name l.one) _ _ (refl, λ p. told_out _ ∙ simp made_laws)
     (refl, λ p. first_of (simp row_laws, search rules))
@@ -158,20 +221,19 @@ lawful_at : (m : Nonterminal) (one : Class) (newline : Bool) (two : Class) (newl
 lawful_at n.Script _ _ _ _ _ = (refl, λ p. told_out _ ∙ simp made_laws)
 lawful_at (n.Items c) k.RightBrace _ _ _ _ = (refl, λ p. first_of (simp row_laws, search rules))
 lawful_at (n.Items c) _ _ _ _ _ = (refl, λ p. first_of (simp row_laws, search rules))
-lawful_at (n.Item c) k.Function _ k.Star _ _ = (refl, λ p. told_out _ ∙ simp made_laws)
-lawful_at (n.Item c) k.Function _ _ _ _ = (refl, λ p. told_out _ ∙ simp made_laws)
+lawful_at (n.Item c) k.Function _ two _ _ = declaration_lawful c two
 lawful_at (n.Item c) k.Let _ _ _ _ = (refl, λ p. told_out _ ∙ simp made_laws)
 lawful_at (n.Item c) k.Const _ _ _ _ = (refl, λ p. told_out _ ∙ simp made_laws)
 lawful_at (n.Item c) _ _ _ _ _ = (refl, λ p. told_one _)
 lawful_at (n.Block c) _ _ _ _ _ = (refl, λ p. told_out _ ∙ simp made_laws)
-lawful_at (n.Binds c) _ _ _ _ _ = (refl, λ p. first_of (simp row_laws, search rules))
-lawful_at (n.Bind c) _ _ _ _ _ = (refl, λ p. told_out _ ∙ simp made_laws)
-lawful_at (n.MoreBinds c) k.Comma _ _ _ _ = (refl, λ p. first_of (simp row_laws, search rules))
-lawful_at (n.MoreBinds c) _ _ _ _ _ = (refl, λ p. refl)
-lawful_at (n.Initial c) k.Assign _ _ _ _ = (refl, λ p. first_of (simp row_laws, search rules))
-lawful_at (n.Initial c) _ _ _ _ _ = (refl, λ p. refl)
-lawful_at n.Bound k.LeftBracket _ _ _ _ = (refl, λ p. first_of (simp row_laws, search rules))
-lawful_at n.Bound _ _ _ _ _ = (refl, λ p. refl)
+lawful_at (n.Binds word c) _ _ _ _ _ = (refl, λ p. first_of (simp row_laws, search rules))
+lawful_at (n.Bind word c) _ _ _ _ _ = (refl, λ p. told_Bind _ word _ _ ∙ simp append-nil)
+lawful_at (n.MoreBinds word c) k.Comma _ _ _ _ = (refl, λ p. first_of (simp row_laws, search rules))
+lawful_at (n.MoreBinds word c) _ _ _ _ _ = (refl, λ p. refl)
+lawful_at (n.Initial word c) k.Assign _ _ _ _ = (refl, λ p. first_of (simp row_laws, search rules))
+lawful_at (n.Initial word c) _ _ _ _ _ = no_value_lawful word c
+lawful_at (n.Bound role) k.LeftBracket _ _ _ _ = (refl, λ p. first_of (simp row_laws, search rules))
+lawful_at (n.Bound role) _ _ _ _ _ = (refl, λ p. refl)
 lawful_at n.Semi k.Semicolon _ _ _ _ = (refl, λ p. first_of (simp row_laws, search rules))
 lawful_at n.Semi _ true _ _ _ = (refl, λ p. refl)
 lawful_at n.Semi _ false _ _ _ = (refl, λ p. refl)
@@ -179,14 +241,14 @@ lawful_at n.LooseSemi k.Semicolon _ _ _ _ = (refl, λ p. first_of (simp row_laws
 lawful_at n.LooseSemi _ _ _ _ _ = (refl, λ p. refl)
 lawful_at (n.Else c) k.Else _ _ _ _ = (refl, λ p. first_of (simp row_laws, search rules))
 lawful_at (n.Else c) _ _ _ _ _ = (refl, λ p. refl)
-lawful_at n.Label k.Name true _ _ _ = (refl, λ p. first_of (simp row_laws, search rules))
-lawful_at n.Label _ true _ _ _ = (refl, λ p. refl)
-lawful_at n.Label _ _ _ _ _ = (refl, λ p. refl)
+lawful_at (n.Label jump) _ true _ _ _ = (refl, λ p. refl)
+lawful_at (n.Label jump) one false _ _ _ =
+    lawful_if (n.Label jump) (is_name one) _ _ (refl, λ p. refl) (refl, λ p. refl)
 lawful_at (n.ReturnValue c) k.Semicolon true _ _ _ = (refl, λ p. first_of (simp row_laws, search rules))
 lawful_at (n.ReturnValue c) _ true _ _ _ = (refl, λ p. refl)
 lawful_at (n.ReturnValue c) _ _ _ _ _ = (refl, λ p. refl)
 lawful_at (n.ThrowValue c) _ true _ _ _ = (refl, λ p. first_of (simp row_laws, search rules))
-lawful_at (n.ThrowValue c) _ _ _ _ _ = (refl, λ p. told_one _)
+lawful_at (n.ThrowValue c) _ _ _ _ _ = (refl, λ p. refl)
 lawful_at (n.Clauses c has_default) k.Case _ _ _ _ = (refl, λ p. told_next _ _ ∙ simp made_laws)
 lawful_at (n.Clauses c false) k.Default _ _ _ _ = (refl, λ p. told_next _ _ ∙ simp made_laws)
 lawful_at (n.Clauses c true) k.Default _ _ _ _ = (refl, λ p. first_of (simp row_laws, search rules))
@@ -200,15 +262,15 @@ lawful_at (n.Finally c) k.Finally _ _ _ _ = (refl, λ p. first_of (simp row_laws
 lawful_at (n.Finally c) _ _ _ _ _ = (refl, λ p. refl)
 lawful_at n.ForOpen k.Await _ _ _ _ = (refl, λ p. first_of (simp row_laws, search rules))
 lawful_at n.ForOpen _ _ _ _ _ = (refl, λ p. refl)
-lawful_at (n.DeclaredHead c) k.In _ _ _ _ = (refl, λ p. first_of (simp row_laws, search rules))
-lawful_at (n.DeclaredHead c) _ _ _ _ _ = (refl, λ p. first_of (simp row_laws, search rules))
+lawful_at (n.DeclaredHead word c) k.In _ _ _ _ = (refl, λ p. first_of (simp row_laws, search rules))
+lawful_at (n.DeclaredHead word c) _ _ _ _ _ = (refl, λ p. first_of (simp row_laws, search rules))
 lawful_at (n.LeftHead c) k.In _ _ _ _ = (refl, λ p. first_of (simp row_laws, search rules))
 lawful_at (n.LeftHead c) _ _ _ _ _ = (refl, λ p. first_of (simp row_laws, search rules))
 lawful_at (n.OptionalExpr c) k.Semicolon _ _ _ _ = (refl, λ p. first_of (simp row_laws, search rules))
 lawful_at (n.OptionalExpr c) _ _ _ _ _ = (refl, λ p. refl)
 lawful_at (n.Expr c) _ _ _ _ _ = (refl, λ p. first_of (simp row_laws, search rules))
-lawful_at (n.ExprRest c) k.Comma _ _ _ _ = (refl, λ p. first_of (simp row_laws, search rules))
-lawful_at (n.ExprRest c) _ _ _ _ _ = (refl, λ p. refl)
+lawful_at (n.ExprRest listed c) k.Comma _ _ _ _ = (refl, λ p. first_of (simp row_laws, search rules))
+lawful_at (n.ExprRest listed c) _ _ _ _ _ = expr_end_lawful listed c
 lawful_at n.ArrowSign _ true _ _ _ = (refl, λ p. first_of (simp row_laws, search rules))
 lawful_at n.ArrowSign _ _ _ _ _ = (refl, λ p. refl)
 lawful_at (n.ArrowBody c) k.LeftBrace _ _ _ _ = (refl, λ p. first_of (simp row_laws, search rules))
@@ -230,7 +292,7 @@ lawful_at (n.NewArgs c) k.LeftParen _ _ _ _ = (refl, λ p. first_of (simp row_la
 lawful_at (n.NewArgs c) _ _ _ _ _ = (refl, λ p. refl)
 lawful_at (n.Args c) _ _ _ _ _ = (refl, λ p. told_out _ ∙ simp made_laws)
 lawful_at (n.Arguments c) k.RightParen _ _ _ _ = (refl, λ p. first_of (simp row_laws, search rules))
-lawful_at (n.Arguments c) _ _ _ _ _ = (refl, λ p. told_two _ _)
+lawful_at (n.Arguments c) _ _ _ _ _ = (refl, λ p. first_of (simp row_laws, search rules))
 lawful_at (n.MoreArguments c) k.Comma _ _ _ _ = (refl, λ p. first_of (simp row_laws, search rules))
 lawful_at (n.MoreArguments c) _ _ _ _ _ = (refl, λ p. refl)
 lawful_at (n.Argument c) k.Ellipsis _ _ _ _ = (refl, λ p. told_out _ ∙ simp made_laws)
@@ -239,11 +301,11 @@ lawful_at (n.TemplateRest c) k.TemplateMiddle _ _ _ _ = (refl, λ p. first_of (s
 lawful_at (n.TemplateRest c) _ _ _ _ _ = (refl, λ p. refl)
 lawful_at (n.Elements c) k.RightBracket _ _ _ _ = (refl, λ p. refl)
 lawful_at (n.Elements c) k.Comma _ _ _ _ = (refl, λ p. told_next _ _ ∙ simp made_laws)
-lawful_at (n.Elements c) _ _ _ _ _ = (refl, λ p. told_two _ _)
+lawful_at (n.Elements c) _ _ _ _ _ = (refl, λ p. first_of (simp row_laws, search rules))
 lawful_at (n.MoreElements c) k.Comma _ _ _ _ = (refl, λ p. first_of (simp row_laws, search rules))
 lawful_at (n.MoreElements c) _ _ _ _ _ = (refl, λ p. refl)
 lawful_at (n.Props c) k.RightBrace _ _ _ _ = (refl, λ p. first_of (simp row_laws, search rules))
-lawful_at (n.Props c) _ _ _ _ _ = (refl, λ p. told_two _ _)
+lawful_at (n.Props c) _ _ _ _ _ = (refl, λ p. first_of (simp row_laws, search rules))
 lawful_at (n.MoreProps c) k.Comma _ _ _ _ = (refl, λ p. first_of (simp row_laws, search rules))
 lawful_at (n.MoreProps c) _ _ _ _ _ = (refl, λ p. refl)
 lawful_at n.ShorthandEnd k.Assign _ _ _ _ = (refl, λ p. first_of (simp row_laws, search rules))
@@ -253,8 +315,8 @@ lawful_at (n.KeyRest c) k.LeftParen _ _ _ _ = (refl, λ p. first_of (simp row_la
 lawful_at (n.KeyRest c) _ _ _ _ _ = (refl, λ p. refl)
 lawful_at (n.Key c) k.Text _ _ _ _ = (refl, λ p. told_out _ ∙ simp made_laws)
 lawful_at (n.Key c) _ _ _ _ _ = (refl, λ p. told_out _ ∙ simp made_laws)
-lawful_at n.OwnName k.Name _ _ _ _ = (refl, λ p. first_of (simp row_laws, search rules))
-lawful_at n.OwnName _ _ _ _ _ = (refl, λ p. refl)
+lawful_at n.OwnName one _ _ _ _ =
+    lawful_if n.OwnName (is_name one) _ _ (refl, λ p. first_of (simp row_laws, search rules)) (refl, λ p. refl)
 lawful_at n.Params _ _ _ _ _ = (refl, λ p. first_of (simp row_laws, search rules))
 lawful_at n.Parameters k.RightParen _ _ _ _ = (refl, λ p. first_of (simp row_laws, search rules))
 lawful_at n.Parameters _ _ _ _ _ = (refl, λ p. first_of (simp row_laws, search rules))
@@ -272,9 +334,10 @@ lawful_at (n.Head c) one newline two newline' arrow = head_lawful c (looked one 
 lawful_at (n.Operation loosest c) one newline two newline' arrow =
     lawful_if (n.Operation loosest c) (is_loosest loosest && begins_arrow (looked one newline two newline' arrow)) _ _
     (arrow_lawful loosest c (is_paren one)) (operation_lawful loosest c (is_loosest loosest && c.yields) one)
+lawful_at (n.Tails tailed loosest c) one newline two newline' arrow =
+    tails_lawful tailed loosest c (looked one newline two newline' arrow) one
 lawful_at (n.Rests loosest tightest c) one newline two newline' arrow =
-    lawful_if (n.Rests loosest tightest c) (reads_on loosest tightest c newline one) _ _
-    (rest_lawful loosest tightest c one) (refl, λ p. first_of (simp row_laws, search rules))
+    rests_lawful loosest tightest c (looked one newline two newline' arrow)
 lawful_at (n.Primary c) one newline two newline' arrow =
     let l = looked one newline two newline' arrow in
     lawful_if (n.Primary c) (is_async l) _ _ (refl, λ p. first_of (simp row_laws, search rules))
@@ -293,5 +356,9 @@ pub rows_open : (m : Nonterminal) (l : Look) → is_open m (step_of (row m l)) �
 rows_open m l = and_right (is_fine m (step_of (row m l))) (is_open m (step_of (row m l))) (rows_lawful m l).0
 
 -- The events of a reading are those of its tree.
-pub tells_tree : (m : Nonterminal) (ts : List Terminal) → tells m ts ≡ tell m (reads m ts)
+pub tells_tree : (m : Nonterminal) (ts : List Terminal) → tells m ts ≡ tell_reading m (reads m ts)
 tells_tree = tells_by (λ m l. (rows_lawful m l).1)
+
+pub script_tells : (ts rest : List Terminal) (tree : Tree) → reads n.Script ts ≡ Got tree rest
+    → tells n.Script ts ≡ Got (events_of tree) rest
+script_tells ts rest tree h = tells_tree n.Script ts ∙ ap (tell_reading n.Script) h

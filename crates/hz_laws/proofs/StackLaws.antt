@@ -5,15 +5,16 @@ use Rattle.hz_tree.specs.declared.class.Class.{Class}
 use Rattle.hz_tree.specs.declared.outside.BadKind.{BadKind}
 use Rattle.hz_tree.specs.declared.outside.BadKind.TheVariants as bad
 use Rattle.hz_tree.specs.declared.nonterminal.Nonterminal.{Nonterminal}
+use Rattle.hz_tree.specs.declared.signal.Signal.{Signal}
 use Rattle.hz_tree.specs.declared.symbol.Symbol.{Symbol}
 use Rattle.hz_tree.specs.declared.symbol.Symbol.TheVariants as s
-use Rattle.hz_tree.specs.declared.tree.FunctionKind.{FunctionKind}
 use Rattle.hz_tree.specs.grammar.Classes.{fits}
 use Rattle.hz_tree.specs.grammar.Look.{Terminal, look, stuck}
+use Rattle.hz_tree.specs.grammar.Signals.{Event, event}
 use Rattle.hz_tree.specs.grammar.Symbols.{Part, Parts, RowOf, goes, refuses}
 use Rattle.hz_tree.specs.grammar.Table.{row, Step, pushes, fails, step_of, step}
-use Rattle.hz_tree.specs.reading.Reading.{Reading, Got, Stuck, Deeper, and_then, place_ahead, end_behind, read_one}
-use Rattle.hz_tree.specs.reading.Reading.{read_all, by_row, Event, Opened, Counted, Closed, Events, told, telling}
+use Rattle.hz_tree.specs.reading.Reading.{Reading, Got, Stuck, Deeper, and_then, told_ahead, read_one}
+use Rattle.hz_tree.specs.reading.Reading.{read_all, by_row, Events, told, telling}
 use Rattle.hz_tree.specs.reading.Reading.{tells}
 use Rattle.hz_tree.specs.reading.Stack.{Verdict, Through, At, Lost, verdict, ends, before}
 use Rattle.hz_laws.proofs.ReadingLaws.{tells_law}
@@ -28,9 +29,7 @@ follow Lost next = Lost
 abbrev told_one : (symbol : Symbol) → Part Events symbol → List Event
 told_one (s.Take wanted) part = []
 told_one (s.Read m) part = part
-told_one (s.Open kind) part = Opened kind part ∷ []
-told_one s.Count part = Counted ∷ []
-told_one s.Close part = Closed part ∷ []
+told_one (s.Tell signal) part = event signal part ∷ []
 
 abbrev pub verdict_one : (symbol : Symbol) → Reading (Part Events symbol) → Verdict
 verdict_one symbol (Got part rest) = Through (told_one symbol part) rest
@@ -41,9 +40,7 @@ told_cons : (x : Symbol) (xs : List Symbol) (v : Part Events x) (vs : Parts Even
     → told (x ∷ xs) (v, vs) ≡ told_one x v ++ told xs vs
 told_cons (s.Take wanted) xs v vs = refl
 told_cons (s.Read m) xs v vs = refl
-told_cons (s.Open kind) xs v vs = refl
-told_cons s.Count xs v vs = refl
-told_cons s.Close xs v vs = refl
+told_cons (s.Tell signal) xs v vs = refl
 
 cons_got : (x : Symbol) (xs : List Symbol) (v : Part Events x) (r : Reading (Parts Events xs))
     → verdict (x ∷ xs) (and_then r (λ vs end. Got (v, vs) end)) ≡ before (told_one x v) (verdict xs r)
@@ -171,16 +168,9 @@ ends_no_token wanted xs = ends_cons (s.Take wanted) xs []
 
 -- ---- symbols that take no token
 
-pub ends_open : (kind : FunctionKind) (xs : List Symbol) (ts : List Terminal)
-    → ends (s.Open kind ∷ xs) ts ≡ before (Opened kind (place_ahead ts) ∷ []) (ends xs ts)
-ends_open kind xs ts = ends_cons (s.Open kind) xs ts
-
-pub ends_count : (xs : List Symbol) (ts : List Terminal) → ends (s.Count ∷ xs) ts ≡ before (Counted ∷ []) (ends xs ts)
-ends_count xs ts = ends_cons s.Count xs ts
-
-pub ends_close : (xs : List Symbol) (ts : List Terminal)
-    → ends (s.Close ∷ xs) ts ≡ before (Closed (end_behind ts) ∷ []) (ends xs ts)
-ends_close xs ts = ends_cons s.Close xs ts
+pub ends_tell : (signal : Signal) (xs : List Symbol) (ts : List Terminal)
+    → ends (s.Tell signal ∷ xs) ts ≡ before (event signal (told_ahead ts) ∷ []) (ends xs ts)
+ends_tell signal xs ts = ends_cons (s.Tell signal) xs ts
 
 -- ---- the beginning and the end
 

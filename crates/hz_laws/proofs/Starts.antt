@@ -5,24 +5,30 @@ use Rattle.hz_tree.specs.declared.class.Class.{Class}
 use Rattle.hz_tree.specs.declared.index.FunctionInfo.{FunctionInfo}
 use Rattle.hz_tree.specs.declared.nonterminal.Nonterminal.{Nonterminal}
 use Rattle.hz_tree.specs.declared.nonterminal.Nonterminal.TheVariants as n
+use Rattle.hz_tree.specs.declared.signal.Role.{Role}
+use Rattle.hz_tree.specs.declared.signal.Role.TheVariants as role
+use Rattle.hz_tree.specs.declared.signal.Signal.{Signal}
+use Rattle.hz_tree.specs.declared.signal.Signal.TheVariants as tell
 use Rattle.hz_tree.specs.declared.symbol.Symbol.{Symbol}
 use Rattle.hz_tree.specs.declared.symbol.Symbol.TheVariants as s
 use Rattle.hz_tree.specs.declared.tree.Tree.{Tree}
 use Rattle.hz_tree.specs.grammar.Classes.{fits}
 use Rattle.hz_tree.specs.grammar.Look.{Terminal, look, stuck}
+use Rattle.hz_tree.specs.grammar.Signals.{Event, Plain, Placed, Texted, Named, Written, event}
 use Rattle.hz_tree.specs.grammar.Symbols.{Part, Parts, Row, goes, refuses}
 use Rattle.hz_tree.specs.grammar.Table.{pushes, row, step_of}
-use Rattle.hz_tree.specs.reading.Reading.{Reading, Got, Stuck, Deeper, and_then, takes, place_ahead, end_behind, Reader, read_one}
-use Rattle.hz_tree.specs.reading.Reading.{read_all, by_row, reads_to, reads_by, enough, Event, Opened, Counted, Closed}
+use Rattle.hz_tree.specs.reading.Reading.{Reading, Got, Stuck, Deeper, and_then, takes, place_ahead, told_ahead}
+use Rattle.hz_tree.specs.reading.Reading.{Reader, read_one}
+use Rattle.hz_tree.specs.reading.Reading.{read_all, by_row, reads_to, reads_by, enough}
 use Rattle.hz_tree.specs.reading.Reading.{Events, told, telling, event_row, tells, reads}
 use Rattle.hz_tree.specs.tokens.Text.{Text}
 use Rattle.hz_tree.specs.trees.Drafts.{Draft, change, change_innermost, counted, ended, happens, built, begun}
 use Rattle.hz_tree.specs.trees.Events.{events_of}
 use Rattle.hz_tree.specs.trees.Functions.{functions_of}
-use Rattle.hz_laws.proofs.Ranks.{leads, leads_all, opens_well, is_open, false_true, and_left, and_right}
+use Rattle.hz_laws.proofs.Ranks.{leads, opens, leads_all, opens_well, is_open, false_true, and_left, and_right}
 use Rattle.hz_laws.proofs.RowLaws.{rows_open, tells_tree}
 use Rattle.hz_laws.proofs.Tied.{built_is}
-use Rattle.hz_laws.proofs.Told.{tell}
+use Rattle.hz_laws.proofs.Told.{tell_reading}
 
 -- ---- places of tokens
 
@@ -84,17 +90,19 @@ leads_then ts mid rest ps qs h i = record {
 
 -- ---- events
 
+-- the place at which a function opens
+abbrev pub opened : Event → List ℕ
+opened (Placed (tell.Open node kind) at) = at ∷ []
+opened _ = []
+
 abbrev pub places : List Event → List ℕ
 places [] = []
-places (Opened kind at ∷ es) = at ∷ places es
-places (Counted ∷ es) = places es
-places (Closed end ∷ es) = places es
+places (e ∷ es) = opened e ++ places es
 
 places_append : (es fs : List Event) → places (es ++ fs) ≡ places es ++ places fs
 places_append [] fs = refl
-places_append (Opened kind at ∷ es) fs = ap (λ ps. at ∷ ps) (places_append es fs)
-places_append (Counted ∷ es) fs = places_append es fs
-places_append (Closed end ∷ es) fs = places_append es fs
+places_append (e ∷ es) fs =
+    ap (λ ps. opened e ++ ps) (places_append es fs) ∙ sym (append_assoc (opened e) (places es) (places fs))
 
 implied : (a b : Bool) → (not a || b) ≡ true → a ≡ true → b ≡ true
 implied true b h i = h
@@ -123,7 +131,8 @@ record Both (reads : Reader Events) (symbol : Symbol) (more : List Symbol) (ts :
   others : read_all reads more mid ≡ Got parts.1 rest
 
 got_others : (reads : Reader Events) (symbol : Symbol) (more : List Symbol) (ts mid : List Terminal)
-    (v : Part Events symbol) (r : Reading (Parts Events more)) (parts : Parts Events (symbol ∷ more)) (rest : List Terminal)
+    (v : Part Events symbol) (r : Reading (Parts Events more)) (parts : Parts Events (symbol ∷ more))
+    (rest : List Terminal)
     → read_one reads symbol ts ≡ Got v mid → read_all reads more mid ≡ r
     → and_then r (λ vs end. Got (v, vs) end) ≡ Got parts rest → Both reads symbol more ts parts rest
 got_others reads symbol more ts mid v (Got vs end) parts rest one others is =
@@ -148,7 +157,7 @@ got_both reads symbol more ts (Stuck cause us) parts rest one is = cc
 got_both reads symbol more ts Deeper parts rest one is = cc
 
 -- what a reading of symbols tells, and that a token is taken first where they lead
-record Told (right : List Symbol) (ts : List Terminal) (ps : List ℕ) (rest : List Terminal) : Type 0 where
+record Walked (right : List Symbol) (ts : List Terminal) (ps : List ℕ) (rest : List Terminal) : Type 0 where
   passes : Passes ts ps rest
   leading : leads_all right ≡ true → Leads ts ps rest
 
@@ -157,35 +166,45 @@ record ToldBy (m : Nonterminal) (ts : List Terminal) (es : List Event) (rest : L
   leading : leads m ≡ true → Leads ts (places es) rest
 
 no_lead : (right : List Symbol) (ts : List Terminal) (ps : List ℕ) (rest : List Terminal) → leads_all right ≡ false
-    → Passes ts ps rest → Told right ts ps rest
+    → Passes ts ps rest → Walked right ts ps rest
 no_lead right ts ps rest none h = record { passes = h; leading = λ e. absurd (false_true (sym none ∙ e)) }
-
-opened_at : (ts mid : List Terminal) (p : ℕ) → Got (place_ahead ts) ts ≡ Got p mid → place_ahead ts ≡ p
-opened_at ts mid p e = cc
 
 same_left : {A : Type 0} (a b : A) (ts mid : List Terminal) → Got a ts ≡ Got b mid → ts ≡ mid
 same_left a b ts mid e = cc
 
+same_got : {A : Type 0} (a b : A) (ts mid : List Terminal) → Got a ts ≡ Got b mid → a ≡ b
+same_got a b ts mid e = cc
+
+-- a function opens at a token that is taken behind, before another one opens; another signal changes nothing
+tell_walked : (signal : Signal) (more : List Symbol) (ts rest : List Terminal) (ps : List ℕ)
+    → (not (opens signal) || leads_all more) ≡ true → Walked more ts ps rest
+    → Walked (s.Tell signal ∷ more) ts (opened (event signal (told_ahead ts)) ++ ps) rest
+tell_walked (tell.Open node kind) more ts rest ps h others =
+    no_lead (s.Tell (tell.Open node kind) ∷ more) ts (place_ahead ts ∷ ps) rest refl
+    (opens_leads ts rest ps (others.leading h))
+tell_walked _ more ts rest ps h others = record { passes = others.passes; leading = others.leading }
+
 module _ (reads : Reader Events)
     (told_by : (m : Nonterminal) (us : List Terminal) (es : List Event) (end : List Terminal)
     → reads m us ≡ Got es end → ToldBy m us es end) where
-  all_told : (right : List Symbol) (ts : List Terminal) (parts : Parts Events right) (rest : List Terminal)
+  all_walked : (right : List Symbol) (ts : List Terminal) (parts : Parts Events right) (rest : List Terminal)
       → opens_well right ≡ true → read_all reads right ts ≡ Got parts rest
-      → Told right ts (places (told right parts)) rest
-  all_told [] ts parts rest h is =
+      → Walked right ts (places (told right parts)) rest
+  all_walked [] ts parts rest h is =
       no_lead [] ts [] rest refl (subst (λ us. Passes ts [] us) (same_left tt parts ts rest is) (passes_nothing ts))
-  all_told (s.Take wanted ∷ more) ts parts rest h is =
+  all_walked (s.Take wanted ∷ more) ts parts rest h is =
       let both = got_both reads (s.Take wanted) more ts (takes wanted ts) parts rest refl is in
       let first = takes_leads wanted ts parts.0 both.mid both.one in
-      let others = all_told more both.mid parts.1 rest h both.others in
+      let others = all_walked more both.mid parts.1 rest h both.others in
       (record {
-        passes = passes_then ts both.mid rest [] (places (told more parts.1)) (passes_leads ts both.mid [] first) others.passes;
+        passes = passes_then ts both.mid rest [] (places (told more parts.1))
+            (passes_leads ts both.mid [] first) others.passes;
         leading = λ e. leads_then ts both.mid rest [] (places (told more parts.1)) first others.passes;
       })
-  all_told (s.Read m ∷ more) ts parts rest h is =
+  all_walked (s.Read m ∷ more) ts parts rest h is =
       let both = got_both reads (s.Read m) more ts (reads m ts) parts rest refl is in
       let first = told_by m ts parts.0 both.mid both.one in
-      let others = all_told more both.mid parts.1 rest h both.others in
+      let others = all_walked more both.mid parts.1 rest h both.others in
       let joined : places (parts.0 ++ told more parts.1) ≡ places parts.0 ++ places (told more parts.1) =
       places_append parts.0 (told more parts.1) in
       (record {
@@ -196,31 +215,23 @@ module _ (reads : Reader Events)
             subst (λ ps. Leads ts ps rest) (sym joined)
             (leads_then ts both.mid rest (places parts.0) (places (told more parts.1)) (first.leading e) others.passes);
       })
-  all_told (s.Open kind ∷ more) ts parts rest h is =
-      let both = got_both reads (s.Open kind) more ts (Got (place_ahead ts) ts) parts rest refl is in
-      let same : ts ≡ both.mid = same_left (place_ahead ts) parts.0 ts both.mid both.one in
-      let others = all_told more ts parts.1 rest (and_right (leads_all more) (opens_well more) h)
+  all_walked (s.Tell signal ∷ more) ts parts rest h is =
+      let both = got_both reads (s.Tell signal) more ts (Got (told_ahead ts) ts) parts rest refl is in
+      let same : ts ≡ both.mid = same_left (told_ahead ts) parts.0 ts both.mid both.one in
+      let here : told_ahead ts ≡ parts.0 = same_got (told_ahead ts) parts.0 ts both.mid both.one in
+      let others = all_walked more ts parts.1 rest (and_right (not (opens signal) || leads_all more)
+      (opens_well more) h)
       (ap (read_all reads more) same ∙ both.others) in
-      no_lead (s.Open kind ∷ more) ts (parts.0 ∷ places (told more parts.1)) rest refl
-      (subst (λ p. Passes ts (p ∷ places (told more parts.1)) rest) (opened_at ts both.mid parts.0 both.one)
-      (opens_leads ts rest (places (told more parts.1))
-      (others.leading (and_left (leads_all more) (opens_well more) h))))
-  all_told (s.Count ∷ more) ts parts rest h is =
-      let both = got_both reads s.Count more ts (Got tt ts) parts rest refl is in
-      let same : ts ≡ both.mid = same_left tt parts.0 ts both.mid both.one in
-      let others = all_told more ts parts.1 rest h (ap (read_all reads more) same ∙ both.others) in
-      no_lead (s.Count ∷ more) ts (places (told more parts.1)) rest refl others.passes
-  all_told (s.Close ∷ more) ts parts rest h is =
-      let both = got_both reads s.Close more ts (Got (end_behind ts) ts) parts rest refl is in
-      let same : ts ≡ both.mid = same_left (end_behind ts) parts.0 ts both.mid both.one in
-      let others = all_told more ts parts.1 rest h (ap (read_all reads more) same ∙ both.others) in
-      no_lead (s.Close ∷ more) ts (places (told more parts.1)) rest refl others.passes
+      subst (λ beside. Walked (s.Tell signal ∷ more) ts
+      (opened (event signal beside) ++ places (told more parts.1)) rest) here
+      (tell_walked signal more ts rest (places (told more parts.1))
+      (and_left (not (opens signal) || leads_all more) (opens_well more) h) others)
 
   right_told : (m : Nonterminal) (right : List Symbol) (ts : List Terminal) (r : Reading (Parts Events right))
       (es : List Event) (rest : List Terminal) → is_open m (pushes right) ≡ true → read_all reads right ts ≡ r
       → and_then r (λ vs end. Got (told right vs) end) ≡ Got es rest → ToldBy m ts es rest
   right_told m right ts (Got parts end) es rest h read is =
-      let all = all_told right ts parts end (and_left (opens_well right) (not (leads m) || leads_all right) h) read in
+      let all = all_walked right ts parts end (and_left (opens_well right) (not (leads m) || leads_all right) h) read in
       let same : told right parts ≡ es = cc in
       let left : end ≡ rest = cc in
       subst (λ us. ToldBy m ts es us) left (subst (λ fs. ToldBy m ts fs end) same (record {
@@ -270,18 +281,36 @@ innermost_starts : (opened : List ℕ) (f : FunctionInfo → FunctionInfo) (fs :
 innermost_starts [] f fs h = refl
 innermost_starts (k ∷ outer) f fs h = change_starts k f fs h
 
+placed_starts : (signal : Signal) (at : ℕ) (d : Draft)
+    → starts (happens d (Placed signal at)).functions ≡ starts d.functions ++ opened (Placed signal at)
+placed_starts (tell.Open node kind) at d = starts_append d.functions _
+placed_starts tell.Close end d =
+    innermost_starts d.opened (ended end) d.functions (λ x. refl) ∙ sym (append-nil (starts d.functions))
+placed_starts _ at d = sym (append-nil (starts d.functions))
+
+declared_starts : (role : Role) (at : ℕ) (name : Text) (d : Draft)
+    → starts (happens d (Named (tell.Declare role) at name)).functions ≡ starts d.functions ++ []
+declared_starts role.Parameter at name d =
+    innermost_starts d.opened counted d.functions (λ x. refl) ∙ sym (append-nil (starts d.functions))
+declared_starts _ at name d = sym (append-nil (starts d.functions))
+
+named_starts : (signal : Signal) (at : ℕ) (name : Text) (d : Draft)
+    → starts (happens d (Named signal at name)).functions ≡ starts d.functions ++ []
+named_starts (tell.Declare role) at name d = declared_starts role at name d
+named_starts _ at name d = sym (append-nil (starts d.functions))
+
+happens_starts : (e : Event) (d : Draft) → starts (happens d e).functions ≡ starts d.functions ++ opened e
+happens_starts (Plain signal) d = sym (append-nil (starts d.functions))
+happens_starts (Placed signal at) d = placed_starts signal at d
+happens_starts (Texted signal text) d = sym (append-nil (starts d.functions))
+happens_starts (Named signal at name) d = named_starts signal at name d
+happens_starts (Written signal at text octal) d = sym (append-nil (starts d.functions))
+
 built_starts : (es : List Event) (d : Draft) → starts (built d es).functions ≡ starts d.functions ++ places es
 built_starts [] d = sym (append-nil (starts d.functions))
-built_starts (Opened kind at ∷ es) d =
-    built_starts es (happens d (Opened kind at))
-    ∙ ap (λ ps. ps ++ places es) (starts_append d.functions _)
-    ∙ append_assoc (starts d.functions) (at ∷ []) (places es)
-built_starts (Counted ∷ es) d =
-    built_starts es (happens d Counted)
-    ∙ ap (λ ps. ps ++ places es) (innermost_starts d.opened counted d.functions (λ x. refl))
-built_starts (Closed end ∷ es) d =
-    built_starts es (happens d (Closed end))
-    ∙ ap (λ ps. ps ++ places es) (innermost_starts d.opened (ended end) d.functions (λ x. refl))
+built_starts (e ∷ es) d =
+    built_starts es (happens d e) ∙ ap (λ ps. ps ++ places es) (happens_starts e d)
+    ∙ append_assoc (starts d.functions) (opened e) (places es)
 
 -- The functions of a script that is read start at 0 and at tokens of it, in their order.
 pub function_starts : (source : Text) (ts : List Terminal) (tree : Tree) (rest : List Terminal)
@@ -289,5 +318,5 @@ pub function_starts : (source : Text) (ts : List Terminal) (tree : Tree) (rest :
     → (starts (functions_of source tree) ≡ 0 ∷ places (events_of tree)) × Passes ts (places (events_of tree)) rest
 function_starts source ts tree rest is = (
   ap (λ d. starts d.functions) (sym (built_is source tree)) ∙ built_starts (events_of tree) (begun source),
-  tells_pass n.Script ts (events_of tree) rest (tells_tree n.Script ts ∙ ap (tell n.Script) is),
+  tells_pass n.Script ts (events_of tree) rest (tells_tree n.Script ts ∙ ap (tell_reading n.Script) is),
 )

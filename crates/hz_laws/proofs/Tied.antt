@@ -2,18 +2,21 @@
 use Rattle.std.proofs.Common.{◌≡◌, ℕ, ◌+◌, min, List, [], ◌∷◌, ◌++◌, length, map, Some, refl, subst, ap, sym, ◌∙◌}
 use Rattle.std.proofs.Common.{append_assoc, append-nil, length-append, arith}
 use Rattle.hz_tree.specs.declared.index.FunctionInfo.{FunctionInfo}
+use Rattle.hz_tree.specs.declared.signal.NodeKind.{NodeKind}
+use Rattle.hz_tree.specs.declared.signal.Signal.TheVariants as tell
 use Rattle.hz_tree.specs.declared.tree.Bound.{Bound}
 use Rattle.hz_tree.specs.declared.tree.FunctionKind.{FunctionKind}
 use Rattle.hz_tree.specs.declared.tree.Tree.{Tree, roll-Tree}
 use Rattle.hz_tree.specs.declared.tree.Tree.TheOpen.{Tree-F}
 use Rattle.hz_tree.specs.declared.tree.Tree.TheFolds.{fold-roll-Tree, ind-Tree, map-Tree}
 use Rattle.hz_tree.specs.tokens.Text.{Text}
-use Rattle.hz_tree.specs.reading.Reading.{Event, Closed}
+use Rattle.hz_tree.specs.grammar.Signals.{Event, Placed}
 use Rattle.hz_tree.specs.trees.Places.{node}
-use Rattle.hz_tree.specs.trees.Events.{told_all, told_parameters, told_function, told_layer, events_of}
+use Rattle.hz_tree.specs.trees.Events.{told_all, node_of, told_layer, events_of}
 use Rattle.hz_tree.specs.trees.Functions.{Found, found_none, found_both, in_all, in_function, in_layer, found_in}
 use Rattle.hz_tree.specs.trees.Functions.{functions_of}
 use Rattle.hz_tree.specs.trees.Drafts.{Draft, change, counted, ended, happens, built, begun}
+use Rattle.hz_laws.proofs.Heard.{heard, heard_builds, counted_events, own_function, heard_own, heard_layer}
 use Rattle.hz_laws.proofs.TreeLaws.{children_map}
 
 built_append : (d : Draft) (es fs : List Event) → built d (es ++ fs) ≡ built (built d es) fs
@@ -52,82 +55,87 @@ change_at (y ∷ fs) f x more = ap (λ xs. y ∷ xs) (change_at fs f x more)
 
 count_all : (ps : List Bound) (fs : List FunctionInfo) (x : FunctionInfo) (outer : List ℕ) (m : ℕ)
     → x.length ≡ min m 255
-    → built (record { functions = fs ++ x ∷ []; opened = length fs ∷ outer }) (told_parameters ps)
+    → built (record { functions = fs ++ x ∷ []; opened = length fs ∷ outer }) (counted_events ps)
     ≡ record { functions = fs ++ record x { length = min (m + length ps) 255 } ∷ []; opened = length fs ∷ outer }
 count_all [] fs x outer m h =
     ap (λ n. record { functions = fs ++ record x { length = n } ∷ []; opened = length fs ∷ outer }) (omega (arith, h))
 count_all (p ∷ ps) fs x outer m h =
-    ap (λ xs. built (record { functions = xs; opened = length fs ∷ outer }) (told_parameters ps))
+    ap (λ xs. built (record { functions = xs; opened = length fs ∷ outer }) (counted_events ps))
     (change_at fs counted x [])
     ∙ count_all ps fs (counted x) outer (m + 1) (omega (arith, h))
     ∙ ap (λ n. record { functions = fs ++ record x { length = n } ∷ []; opened = length fs ∷ outer }) (omega arith)
 
-function_builds : (start end : ℕ) (kind : FunctionKind) (ps : List Bound) (body : List Event) (found : Found)
-    → Tied body found
-    → (fs : List FunctionInfo) (k : ℕ) (outer : List ℕ)
-    → built (record { functions = fs; opened = k ∷ outer }) (told_function start end kind ps body)
-    ≡ record { functions = fs ++ in_function start end kind (length ps) found k (length fs); opened = k ∷ outer }
-function_builds start end kind ps body found h fs k outer =
-    let new : FunctionInfo = record { start = start; end = start; kind = kind; length = 0; parent = Some k } in
-    let full : FunctionInfo = record {
-      start = start;
-      end = start;
-      kind = kind;
-      length = min
-          (length ps) 255;
-      parent = Some k;
-    } in
-    let open_draft : Draft = record { functions = fs ++ new ∷ []; opened = length fs ∷ k ∷ outer } in
-    built_append open_draft (told_parameters ps) (body ++ Closed end ∷ [])
-    ∙ ap (λ d. built d (body ++ Closed end ∷ [])) (count_all ps fs new (k ∷ outer) 0 refl
-    ∙ ap (λ n. record { functions = fs ++ record new { length = n } ∷ []; opened = length fs ∷ k ∷ outer })
-    (omega arith))
-    ∙ built_append (record { functions = fs ++ full ∷ []; opened = length fs ∷ k ∷ outer }) body (Closed end ∷ [])
-    ∙ ap (λ d. built d (Closed end ∷ [])) (h.builds (fs ++ full ∷ []) (length fs) (k ∷ outer))
-    ∙ ap (λ xs. record { functions = xs; opened = k ∷ outer })
-    (ap (change (length fs) (ended end)) (append_assoc fs (full ∷ []) (found (length fs) (length (fs ++ full ∷ []))))
-    ∙ change_at fs (ended end) full (found (length fs) (length (fs ++ full ∷ [])))
-    ∙ ap (λ n. fs ++ ended end full ∷ found (length fs) n) (length-append fs (full ∷ []) ∙ omega arith))
+module _ (start end : ℕ) (node : NodeKind) (kind : FunctionKind) (ps : List Bound) where
+  function_builds : (body : List Event) (found : Found) → Tied body found
+      → (fs : List FunctionInfo) (k : ℕ) (outer : List ℕ)
+      → built (record { functions = fs; opened = k ∷ outer }) (own_function start end node kind ps body)
+      ≡ record { functions = fs ++ in_function start end kind (length ps) found k (length fs); opened = k ∷ outer }
+  function_builds body found h fs k outer =
+      let new : FunctionInfo = record { start = start; end = start; kind = kind; length = 0; parent = Some k } in
+      let full : FunctionInfo = record new { length = min (length ps) 255 } in
+      let closing : List Event = Placed tell.Close end ∷ [] in
+      let open_draft : Draft = record { functions = fs ++ new ∷ []; opened = length fs ∷ k ∷ outer } in
+      built_append open_draft (counted_events ps) (body ++ closing)
+      ∙ ap (λ d. built d (body ++ closing)) (count_all ps fs new (k ∷ outer) 0 refl
+      ∙ ap (λ n. record { functions = fs ++ record new { length = n } ∷ []; opened = length fs ∷ k ∷ outer })
+      (omega arith))
+      ∙ built_append (record { functions = fs ++ full ∷ []; opened = length fs ∷ k ∷ outer }) body closing
+      ∙ ap (λ d. built d closing) (h.builds (fs ++ full ∷ []) (length fs) (k ∷ outer))
+      ∙ ap (λ xs. record { functions = xs; opened = k ∷ outer })
+      (ap (change (length fs) (ended end)) (append_assoc fs (full ∷ []) (found (length fs) (length (fs ++ full ∷ []))))
+      ∙ change_at fs (ended end) full (found (length fs) (length (fs ++ full ∷ [])))
+      ∙ ap (λ n. fs ++ ended end full ∷ found (length fs) n) (length-append fs (full ∷ []) ∙ omega arith))
 
-tied_function : (start end : ℕ) (kind : FunctionKind) (ps : List Bound) {body : (List Event)} {found : Found}
-    → Tied body found
-    → Tied (told_function start end kind ps body) (in_function start end kind (length ps) found)
-tied_function start end kind ps {body} {found} h = record { builds = function_builds start end kind ps body found h }
+  tied_function : {body : (List Event)} {found : Found} → Tied body found
+      → Tied (own_function start end node kind ps body) (in_function start end kind (length ps) found)
+  tied_function {body} {found} h = record { builds = function_builds body found h }
 
 -- ---- all trees
 
 abbrev TiedTree : Tree → Type 0
-TiedTree tree = Tied (events_of tree) (found_in tree)
+TiedTree tree = Tied (heard (events_of tree)) (found_in tree)
 
 abbrev Proved : Type 0
 Proved = (tree : Tree) × TiedTree tree
 
-tied_all : (ts : List Proved) → Tied (told_all (map events_of (map (λ e. e.0) ts)))
-    (in_all (map found_in (map (λ e. e.0) ts)))
+abbrev trees : List Proved → List Tree
+trees = map (λ e. e.0)
+
+tied_all : (ts : List Proved)
+    → Tied (told_all (map heard (map events_of (trees ts)))) (in_all (map found_in (trees ts)))
 tied_all [] = tied_none
 tied_all (e ∷ more) = tied_both e.1 (tied_all more)
 
 children_twice : {A : Type 0} (f : Tree → A) (y : Tree-F Proved)
-    → (node (map-Tree Tree A f (map-Tree Proved Tree (λ e. e.0) y))).children ≡ map f (map (λ e. e.0) (node y).children)
+    → (node (map-Tree Tree A f (map-Tree Proved Tree (λ e. e.0) y))).children ≡ map f (trees (node y).children)
 children_twice f y = children_map f (map-Tree Proved Tree (λ e. e.0) y) ∙ ap (map f) (children_map (λ e. e.0) y)
 
 tied_children : (events : List (List Event)) (found : List Found) (y : Tree-F Proved)
-    → events ≡ map events_of (map (λ e. e.0) (node y).children)
-    → found ≡ map found_in (map (λ e. e.0) (node y).children) → Tied (told_all events) (in_all found)
+    → events ≡ map events_of (trees (node y).children) → found ≡ map found_in (trees (node y).children)
+    → Tied (told_all (map heard events)) (in_all found)
 tied_children events found y h i = rw (h, i) (tied_all (node y).children)
 
-tied_layer : (y : Tree-F Proved)
-    → Tied (told_layer (map-Tree Tree (List Event) events_of (map-Tree Proved Tree (λ e. e.0) y)))
+tied_own : (y : Tree-F Proved)
+    → Tied (heard_own (map-Tree Tree (List Event) events_of (map-Tree Proved Tree (λ e. e.0) y)))
     (in_layer (map-Tree Tree Found found_in (map-Tree Proved Tree (λ e. e.0) y)))
-tied_layer (Tree-F.Function at end kind name parameters rest body) = tied_function at end kind parameters body.1
-tied_layer y = tied_children _ _ y (children_twice events_of y) (children_twice found_in y)
+tied_own (Tree-F.Function at end form kind parameters rest body) =
+    tied_function at end (node_of form) kind parameters body.1
+tied_own y = tied_children _ _ y (children_twice events_of y) (children_twice found_in y)
 
-tied_roll : (x : Tree-F Tree) → Tied (told_layer (map-Tree Tree (List Event) events_of x))
+tied_layer : (y : Tree-F Proved)
+    → Tied (heard (told_layer (map-Tree Tree (List Event) events_of (map-Tree Proved Tree (λ e. e.0) y))))
+    (in_layer (map-Tree Tree Found found_in (map-Tree Proved Tree (λ e. e.0) y)))
+tied_layer y =
+    subst (λ es. Tied es (in_layer (map-Tree Tree Found found_in (map-Tree Proved Tree (λ e. e.0) y))))
+    (sym (heard_layer (map-Tree Tree (List Event) events_of (map-Tree Proved Tree (λ e. e.0) y)))) (tied_own y)
+
+tied_roll : (x : Tree-F Tree) → Tied (heard (told_layer (map-Tree Tree (List Event) events_of x)))
     (in_layer (map-Tree Tree Found found_in x)) → TiedTree (roll-Tree x)
 unfolding events_of found_in
 tied_roll x h = record {
   builds = λ fs k outer.
-      ap (built (record { functions = fs; opened = k ∷ outer })) (fold-roll-Tree (List Event) told_layer x)
+      ap (λ es. built (record { functions = fs; opened = k ∷ outer }) (heard es))
+      (fold-roll-Tree (List Event) told_layer x)
       ∙ h.builds fs k outer
       ∙ ap (λ found. record { functions = fs ++ found k (length fs); opened = k ∷ outer })
       (sym (fold-roll-Tree Found in_layer x));
@@ -141,4 +149,5 @@ tied =
 pub built_is : (source : Text) (tree : Tree)
     → built (begun source) (events_of tree) ≡ record { functions = functions_of source tree; opened = 0 ∷ [] }
 unfolding functions_of
-built_is source tree = (tied tree).builds (begun source).functions 0 []
+built_is source tree =
+    sym (heard_builds (events_of tree) (begun source)) ∙ (tied tree).builds (begun source).functions 0 []

@@ -1,10 +1,10 @@
 // Laws of the grammar's table, for the readers of the grammar.
 //
 // The layers above rely on the lemmas in `proofs/`: what a stack of the table's symbols makes of tokens, symbol by
-// symbol (`StackLaws`) and in how many turns (`TurnLaws`); that the events of a reading are those of its tree
+// symbol (`StackLaws`) and in how many moves (`MoveLaws`); that the events of a reading are those of its tree
 // (`RowLaws`), and that they build the functions of the tree (`Tied`). The functions here are laws of whole readings.
 #![tactic(auto)]
 
 mod readings;
 
-pub use readings::reading_ends;
+pub use readings::{reading_ends, reading_tells};

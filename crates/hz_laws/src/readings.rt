@@ -1,10 +1,20 @@
-ghost use Rattle.std.specs.Prelude.{◌≢◌, List};
+ghost use Rattle.std.specs.Prelude.{◌≡◌, ◌≢◌, List};
 ghost use Rattle.hz_tree.specs.declared.nonterminal.Nonterminal.{Nonterminal};
+ghost use Rattle.hz_tree.specs.declared.nonterminal.Nonterminal.TheVariants.{Script};
+ghost use Rattle.hz_tree.specs.declared.tree.Tree.{Tree};
 ghost use Rattle.hz_tree.specs.grammar.Look.{Terminal};
-ghost use Rattle.hz_tree.specs.reading.Reading.{Deeper, reads};
+ghost use Rattle.hz_tree.specs.reading.Reading.{Got, Deeper, reads, tells};
+ghost use Rattle.hz_tree.specs.trees.Events.{events_of};
 
 /// Law: a reading never runs out of depth.
 #[tactic(auto, using(crate::proofs::ReadingLaws::reads_not_deeper))]
 pub fn reading_ends()
     ensures { (nonterminal : Nonterminal) (ts : List Terminal) → reads nonterminal ts ≢ Deeper }
+{}
+
+/// Law: where tokens are read as a script, the reading tells what the tree of the script tells.
+#[tactic(auto, using(crate::proofs::RowLaws::script_tells))]
+pub fn reading_tells()
+    ensures { (ts rest : List Terminal) (tree : Tree) → reads Script ts ≡ Got tree rest →
+        tells Script ts ≡ Got (events_of tree) rest }
 {}

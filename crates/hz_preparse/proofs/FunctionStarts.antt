@@ -84,7 +84,8 @@ passes_rises ts rest ps h i =
 tail_same : (a b : ℕ) (ps qs : List ℕ) → a ∷ ps ≡ b ∷ qs → ps ≡ qs
 tail_same a b ps qs h = cc (h)
 
-by_rise : (source : Text) (r : Reading Tree) → reads n.Script (terminals source) ≡ r → StartsRise (functions_by source r)
+by_rise : (source : Text) (r : Reading Tree) → reads n.Script (terminals source) ≡ r
+    → StartsRise (functions_by source r)
 unfolding functions_of
 by_rise source (Got tree rest) is =
     let told = function_starts source (terminals source) tree rest is in

@@ -4,7 +4,8 @@ use Rattle.std.proofs.Common.{sym}
 use Rattle.hz_tree.specs.declared.class.Class.{Class}
 use Rattle.hz_tree.specs.declared.class.Class.TheVariants as k
 use Rattle.hz_tree.specs.declared.nonterminal.Nonterminal.TheVariants as n
-use Rattle.hz_tree.specs.declared.symbol.Symbol.TheVariants.{Take, Read}
+use Rattle.hz_tree.specs.declared.signal.Signal.TheVariants as tell
+use Rattle.hz_tree.specs.declared.symbol.Symbol.TheVariants.{Take, Tell}
 use Rattle.hz_tree.specs.declared.operator.Level.TheVariants as level
 use Rattle.hz_tree.specs.declared.operator.UnaryOperator.{UnaryOperator}
 use Rattle.hz_tree.specs.declared.outside.BadKind.TheVariants as bad
@@ -14,16 +15,18 @@ use Rattle.hz_tree.specs.declared.tree.Tree.TheVariants as t
 use Rattle.hz_tree.specs.declared.look.Look.{Look}
 use Rattle.hz_tree.specs.grammar.Look.{Terminal, look, stuck, begins_arrow, is_async}
 use Rattle.hz_tree.specs.grammar.Classes.{is_name, is_paren, is_colon}
-use Rattle.hz_tree.specs.grammar.Symbols.{assignment, goes, refuses, Row, of_script}
+use Rattle.hz_tree.specs.grammar.Symbols.{assignment, goes, refuses, Row, of_script, AfterFor, declares, begins_left}
+use Rattle.hz_tree.specs.grammar.Symbols.{begins_expr, goes_over, initialised, target_of, expression_of}
+use Rattle.hz_tree.specs.grammar.HeadRows.{for_tree}
 use Rattle.hz_tree.specs.reading.Reading.{Got, reads}
 use Rattle.hz_tree.specs.grammar.Operators.{unary_operator}
 use Rattle.hz_tree.specs.grammar.OperatorRows.{operand_row, operation_by, arrow_row}
 use Rattle.hz_tree.specs.grammar.PrimaryRows.{new_row, primary_by, function_expression_row}
-use Rattle.hz_tree.specs.grammar.StatementRows.{item_row, statement_by}
+use Rattle.hz_tree.specs.grammar.StatementRows.{declaration_row, item_row, labelled_row, statement_by}
 use Rattle.hz_tree.specs.sources.Refusals.{directive}
 use Rattle.hz_preparse.specs.Prologue.{is_text}
 use Rattle.hz_preparse.proofs.Readings.{RowGives, gives}
-use Rattle.hz_preparse.proofs.TextRows.{text_of, false_true, none_operated, none_listed}
+use Rattle.hz_preparse.proofs.TextRows.{text_of, false_true, none_applied, none_operated, none_listed}
 
 abbrev NoText : Tree → List Terminal → Type 0
 NoText v rest = text_of v ≡ None
@@ -39,8 +42,8 @@ function_none ts two = elim two as (λ two. RowGives (n.Primary of_script) NoTex
     (function_expression_row of_script two)) [ k.Star ↦ λ parts rest all. refl | _ ↦ λ parts rest all. refl ]
 
 name_none : (ts : List Terminal) (l : Look) (b : Bool)
-    → RowGives (n.Primary of_script) NoText ts (if b then goes (Take k.Name ∷ [])
-    (λ (first, _). t.Identifier first.token.at first.token.text) else refuses (stuck l))
+    → RowGives (n.Primary of_script) NoText ts (if b then goes (Tell tell.Name ∷ Take k.Name ∷ [])
+    (λ (told, _). t.Identifier told.at told.text) else refuses (stuck l))
 unfolding Rattle.hz_tree.specs.declared.tree.Tree.TheViews.out-Tree denote.Hole.Carrier.out denote.Hole.Carrier.shown
     denote.Hole.Carrier.hidden Rattle.hz_tree.specs.declared.tree.Tree.TheBlock.shown-the_row-Tree-0
     Rattle.hz_tree.specs.declared.tree.Tree.TheBlock.shown-the_row-Tree-1
@@ -101,8 +104,8 @@ operand_none : (ts : List Terminal) (c : Class) (o : Option UnaryOperator) → i
 unfolding Rattle.hz_tree.specs.declared.tree.Tree.TheViews.out-Tree denote.Hole.Carrier.out denote.Hole.Carrier.shown
     denote.Hole.Carrier.hidden Rattle.hz_tree.specs.declared.tree.Tree.TheBlock.shown-the_row-Tree-0
     Rattle.hz_tree.specs.declared.tree.Tree.TheBlock.shown-the_row-Tree-1
-operand_none ts c (Some operator) h = λ parts rest all. none_operated (t.Unary parts.0.token.at operator parts.1.0)
-    parts.1.1.0 refl
+operand_none ts c (Some operator) h = λ parts rest all.
+    none_applied (t.Unary parts.0.at operator parts.1.1.0) parts.1.1.1.1.1.1.0 refl
 operand_none ts c None h = λ parts rest all. none_operated parts.0 parts.1.0 (primary_none ts parts.0 all.0 h all.1.0)
 
 operation_none : (ts : List Terminal) (c : Class) → is_text (look ts).one ≡ false
@@ -151,6 +154,16 @@ unfolding Rattle.hz_tree.specs.declared.tree.Tree.TheViews.out-Tree denote.Hole.
     Rattle.hz_tree.specs.declared.tree.Tree.TheBlock.shown-the_row-Tree-1
 block_none ts v rest is = gives (n.Block of_script) NoDirective ts v rest (λ parts rest all. refl) is
 
+for_none : (at : ℕ) (after : AfterFor) → directive (for_tree at after) ≡ None
+unfolding Rattle.hz_tree.specs.declared.tree.Tree.TheViews.out-Tree denote.Hole.Carrier.out denote.Hole.Carrier.shown
+    denote.Hole.Carrier.hidden Rattle.hz_tree.specs.declared.tree.Tree.TheBlock.shown-the_row-Tree-0
+    Rattle.hz_tree.specs.declared.tree.Tree.TheBlock.shown-the_row-Tree-1
+for_none at (declares word bound (goes_over iteration over) body end) = refl
+for_none at (declares word bound (initialised value more test update) body end) = refl
+for_none at (begins_left left (target_of iteration over) body) = refl
+for_none at (begins_left left (expression_of operators more test update) body) = refl
+for_none at (begins_expr first test update body) = refl
+
 statement_by_none : (ts : List Terminal) (l : Look) (c : Class) → is_text (look ts).one ≡ false
     → RowGives (n.Statement of_script) NoDirective ts (statement_by of_script l c)
 unfolding Rattle.hz_tree.specs.declared.tree.Tree.TheViews.out-Tree denote.Hole.Carrier.out denote.Hole.Carrier.shown
@@ -165,7 +178,7 @@ statement_by_none ts l c h =
       | k.If ↦ λ parts rest all. refl
       | k.Do ↦ λ parts rest all. refl
       | k.While ↦ λ parts rest all. refl
-      | k.For ↦ λ parts rest all. refl
+      | k.For ↦ λ parts rest all. for_none parts.0.at parts.1.1.1.0
       | k.Continue ↦ λ parts rest all. refl
       | k.Break ↦ λ parts rest all. refl
       | k.Throw ↦ λ parts rest all. refl
@@ -173,15 +186,13 @@ statement_by_none ts l c h =
       | k.Try ↦ λ parts rest all. refl
       | k.Return ↦ tt
       | k.Function ↦ tt
-      | _ ↦ λ parts rest all. expr_none ts parts.0 all.0 h all.1.0
+      | _ ↦ λ parts rest all. expr_none ts parts.1.0 all.1.0 h all.1.1.0
     ]
 
 statement_row_none : (ts : List Terminal) (l : Look) (a b : Bool) → is_text (look ts).one ≡ false
     → RowGives (n.Statement of_script) NoDirective ts
     (if a then refuses (bad.Outside outside.Async)
-    else (if b then goes (Take k.Name ∷ Take k.Colon ∷ Read (n.Statement of_script) ∷ [])
-    (λ (name, (_, (body, _))). t.Label name.token.at name.token.text body)
-    else statement_by of_script l l.one))
+    else (if b then labelled_row of_script else statement_by of_script l l.one))
 unfolding Rattle.hz_tree.specs.declared.tree.Tree.TheViews.out-Tree denote.Hole.Carrier.out denote.Hole.Carrier.shown
     denote.Hole.Carrier.hidden Rattle.hz_tree.specs.declared.tree.Tree.TheBlock.shown-the_row-Tree-0
     Rattle.hz_tree.specs.declared.tree.Tree.TheBlock.shown-the_row-Tree-1
@@ -195,6 +206,14 @@ statement_none ts v rest h is =
     gives (n.Statement of_script) NoDirective ts v rest
     (statement_row_none ts (look ts) (is_async (look ts)) (is_name (look ts).one && is_colon (look ts).two) h) is
 
+declaration_none : (ts : List Terminal) (two : Class)
+    → RowGives (n.Item of_script) NoDirective ts (declaration_row of_script two)
+unfolding Rattle.hz_tree.specs.declared.tree.Tree.TheViews.out-Tree denote.Hole.Carrier.out denote.Hole.Carrier.shown
+    denote.Hole.Carrier.hidden Rattle.hz_tree.specs.declared.tree.Tree.TheBlock.shown-the_row-Tree-0
+    Rattle.hz_tree.specs.declared.tree.Tree.TheBlock.shown-the_row-Tree-1
+declaration_none ts two = elim two as (λ two. RowGives (n.Item of_script) NoDirective ts
+    (declaration_row of_script two)) [ k.Star ↦ λ parts rest all. refl | _ ↦ λ parts rest all. refl ]
+
 item_row_none : (ts : List Terminal) (one two : Class) → is_text (look ts).one ≡ false
     → RowGives (n.Item of_script) NoDirective ts (item_row of_script one two)
 unfolding Rattle.hz_tree.specs.declared.tree.Tree.TheViews.out-Tree denote.Hole.Carrier.out denote.Hole.Carrier.shown
@@ -202,8 +221,7 @@ unfolding Rattle.hz_tree.specs.declared.tree.Tree.TheViews.out-Tree denote.Hole.
     Rattle.hz_tree.specs.declared.tree.Tree.TheBlock.shown-the_row-Tree-1
 item_row_none ts one two h =
     elim one as (λ one. RowGives (n.Item of_script) NoDirective ts (item_row of_script one two)) [
-      | k.Function ↦ elim two as (λ two. RowGives (n.Item of_script) NoDirective ts
-          (item_row of_script k.Function two)) [ k.Star ↦ λ parts rest all. refl | _ ↦ λ parts rest all. refl ]
+      | k.Function ↦ declaration_none ts two
       | k.Let ↦ λ parts rest all. refl
       | k.Const ↦ λ parts rest all. refl
       | _ ↦ λ parts rest all. statement_none ts parts.0 all.0 h all.1.0

@@ -6,17 +6,15 @@ use Rattle.hz_tree.specs.declared.class.Class.TheVariants as k
 use Rattle.hz_tree.specs.declared.nonterminal.Nonterminal.TheVariants as n
 use Rattle.hz_tree.specs.declared.outside.BadKind.TheVariants as bad
 use Rattle.hz_tree.specs.declared.outside.OutsideKind.TheVariants as outside
-use Rattle.hz_tree.specs.declared.symbol.Symbol.TheVariants.{Take, Read}
 use Rattle.hz_tree.specs.declared.tree.Tree.{Tree, out-Tree, the_lemmas}
 use Rattle.hz_tree.specs.declared.tree.Tree.TheVariants as t
 use Rattle.hz_tree.specs.declared.look.Look.{Look}
 use Rattle.hz_tree.specs.grammar.Classes.{fits, is_name, is_async_word, is_function, is_paren, is_colon}
 use Rattle.hz_tree.specs.grammar.Look.{Terminal, look, stuck}
-use Rattle.hz_tree.specs.grammar.Symbols.{goes, refuses, Value, of_script}
+use Rattle.hz_tree.specs.grammar.Symbols.{refuses, Value, of_script}
 use Rattle.hz_tree.specs.reading.Reading.{Got, Stuck, takes, reads}
 use Rattle.hz_tree.specs.tokens.Text.{Text}
-use Rattle.hz_tree.specs.trees.Places.{place}
-use Rattle.hz_tree.specs.grammar.StatementRows.{first_place, items_row, item_row, statement_by, semi_by}
+use Rattle.hz_tree.specs.grammar.StatementRows.{items_row, item_row, labelled_row, statement_by, semi_by}
 use Rattle.hz_tree.specs.sources.Refusals.{directive, is_use_strict, says_strict, script_items, is_strict}
 use Rattle.hz_preparse.specs.Prologue.{goes_on, is_text, is_semicolon, directs_strict, prologue}
 use Rattle.hz_preparse.proofs.Readings.{RowGives, gives}
@@ -116,9 +114,8 @@ statement_text x us v rest h is =
     (subst (λ c. RowGives (n.Statement of_script) (λ v rest. Directs x us v rest) (x ∷ us)
     (if is_async_word c && (not l.two_newline && (is_function l.two || (is_name l.two || (is_paren l.two && l.arrow))))
     then refuses (bad.Outside outside.Async)
-    else (if is_name c && is_colon l.two then goes (Take k.Name ∷ Take k.Colon ∷ Read (n.Statement of_script) ∷ [])
-    (λ (name, (_, (body, _))). t.Label name.token.at name.token.text body)
-    else statement_by of_script l c))) (sym (look_one x us ∙ h)) by_text) is
+    else (if is_name c && is_colon l.two then labelled_row of_script else statement_by of_script l c))) (sym
+    (look_one x us ∙ h)) by_text) is
   where
     l : Look
     l = look (x ∷ us)
@@ -126,13 +123,15 @@ statement_text x us v rest h is =
     by_text : RowGives (n.Statement of_script) (λ v rest. Directs x us v rest) (x ∷ us)
         (statement_by of_script (look (x ∷ us)) k.Text)
     by_text parts rest all =
-        let value = expr_text x us parts.0 all.0 h all.1.0 in
-        let semi = last_read n.Semi all.0 parts.1 rest all.1.1 in
+        let value = expr_text x us parts.1.0 all.1.0 h all.1.1.0 in
+        let behind = all.1.1.1.1.1 in
+        let semi : reads n.Semi all.1.0 ≡ Got parts.1.1.1.1.0 rest =
+        subst (λ r. reads n.Semi all.1.0 ≡ Got parts.1.1.1.1.0 r) (sym behind.1.1.1) behind.1.0 in
         (record {
-          longer = λ e. directive_expression (place parts.0) parts.0 ∙ value.longer e;
+          longer = λ e. directive_expression parts.0.at parts.1.0 ∙ value.longer e;
           alone = λ e. (
-            directive_expression (place parts.0) parts.0 ∙ ap text_of (value.alone e).0 ∙ text_of_text x,
-            semi_ends us rest parts.1.0 (ap (reads n.Semi) (sym (value.alone e).1) ∙ semi),
+            directive_expression parts.0.at parts.1.0 ∙ ap text_of (value.alone e).0 ∙ text_of_text x,
+            semi_ends us rest parts.1.1.1.1.0 (ap (reads n.Semi) (sym (value.alone e).1) ∙ semi),
           );
         })
 
@@ -257,5 +256,5 @@ pub prologue_law : (ts : List Terminal) (tree : Tree) (rest : List Terminal) →
     → is_strict tree ≡ prologue ts
 prologue_law ts tree rest is =
     gives n.Script (λ tree rest. is_strict tree ≡ prologue ts) ts tree rest (λ parts end all.
-    ap says_strict (items_of_script (first_place parts.0 parts.1.0.token.at) parts.0)
-    ∙ items_law (length ts) ts parts.0 all.0 (omega arith) all.1.0) is
+    ap says_strict (items_of_script parts.0.at parts.1.0)
+    ∙ items_law (length ts) ts parts.1.0 all.1.0 (omega arith) all.1.1.0) is

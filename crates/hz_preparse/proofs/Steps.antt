@@ -4,19 +4,19 @@ use Rattle.std.proofs.Common.{subst}
 use Rattle.hz_tree.specs.declared.class.Class.{Class}
 use Rattle.hz_tree.specs.declared.nonterminal.Nonterminal.{Nonterminal}
 use Rattle.hz_tree.specs.declared.outside.BadKind.{BadKind}
+use Rattle.hz_tree.specs.declared.signal.Signal.{Signal}
 use Rattle.hz_tree.specs.declared.symbol.Symbol.{Symbol}
 use Rattle.hz_tree.specs.declared.symbol.Symbol.TheVariants as s
-use Rattle.hz_tree.specs.declared.tree.FunctionKind.{FunctionKind}
 use Rattle.hz_tree.specs.grammar.Classes.{fits}
 use Rattle.hz_tree.specs.trees.Drafts.{Draft, happens}
 use Rattle.hz_tree.specs.grammar.Table.{Step, pushes, fails, step}
 use Rattle.hz_tree.specs.grammar.Look.{Terminal, look, stuck}
-use Rattle.hz_tree.specs.reading.Reading.{Got, Stuck, takes, place_ahead, end_behind, Event, Opened, Counted, Closed}
+use Rattle.hz_tree.specs.grammar.Signals.{Event, event}
+use Rattle.hz_tree.specs.reading.Reading.{Got, Stuck, takes, place_ahead, told_ahead}
 use Rattle.hz_tree.specs.sources.Refusals.{refusal_at}
 use Rattle.hz_tree.specs.reading.Stack.{Verdict, Through, At, Lost, ends, before, work}
-use Rattle.hz_laws.proofs.StackLaws.{ends_pushes, ends_fails, ends_take, ends_other, ends_no_token, ends_open}
-use Rattle.hz_laws.proofs.StackLaws.{ends_count, ends_close}
-use Rattle.hz_laws.proofs.TurnLaws.{work_pushes, work_take, work_open, work_count, work_close}
+use Rattle.hz_laws.proofs.StackLaws.{ends_pushes, ends_fails, ends_take, ends_other, ends_no_token, ends_tell}
+use Rattle.hz_laws.proofs.MoveLaws.{work_pushes, work_take, work_tell}
 use Rattle.hz_rows.specs.declared.stop.Stop.TheVariants as stop
 use Rattle.hz_rows.specs.Pushed.{Pushed}
 use Rattle.hz_preparse.specs.Outcome.{outcome, refused}
@@ -75,29 +75,18 @@ happened d event (Through more rest) = refl
 happened d event (At cause ts) = refl
 happened d event Lost = refl
 
-pub open_goes : (kind : FunctionKind) (xs : List Symbol) (ts : List Terminal) (d new : Draft) → new
-    ≡ happens d (Opened kind (place_ahead ts))
-    → Goes (s.Open kind ∷ xs) ts d xs ts new
-open_goes kind xs ts d new h = record {
-  same = ap (λ e. outcome e (ends xs ts)) h ∙ sym (ap (outcome d) (ends_open kind xs ts)
-      ∙ happened d (Opened kind (place_ahead ts)) (ends xs ts));
-  less = work_open kind xs ts;
+tell_goes : (signal : Signal) (xs : List Symbol) (ts : List Terminal) (d new : Draft)
+    → new ≡ happens d (event signal (told_ahead ts)) → Goes (s.Tell signal ∷ xs) ts d xs ts new
+tell_goes signal xs ts d new h = record {
+  same = ap (λ e. outcome e (ends xs ts)) h ∙ sym (ap (outcome d) (ends_tell signal xs ts)
+      ∙ happened d (event signal (told_ahead ts)) (ends xs ts));
+  less = work_tell signal xs ts;
 }
 
-pub count_goes : (xs : List Symbol) (ts : List Terminal) (d new : Draft) → new ≡ happens d Counted
-    → Goes (s.Count ∷ xs) ts d xs ts new
-count_goes xs ts d new h = record {
-  same = ap (λ e. outcome e (ends xs ts)) h ∙ sym (ap (outcome d) (ends_count xs ts) ∙ happened d Counted (ends xs ts));
-  less = work_count xs ts;
-}
-
-pub close_goes : (xs : List Symbol) (ts : List Terminal) (d new : Draft) → new ≡ happens d (Closed (end_behind ts))
-    → Goes (s.Close ∷ xs) ts d xs ts new
-close_goes xs ts d new h = record {
-  same = ap (λ e. outcome e (ends xs ts)) h ∙ sym (ap (outcome d) (ends_close xs ts)
-      ∙ happened d (Closed (end_behind ts)) (ends xs ts));
-  less = work_close xs ts;
-}
+pub tell_steps : (symbol : Symbol) (signal : Signal) (xs : List Symbol) (ts : List Terminal) (d new : Draft)
+    → symbol ≡ s.Tell signal → new ≡ happens d (event signal (told_ahead ts)) → Goes (symbol ∷ xs) ts d xs ts new
+tell_steps symbol signal xs ts d new e h =
+    subst (λ x. Goes (x ∷ xs) ts d xs ts new) (sym e) (tell_goes signal xs ts d new h)
 
 -- ---- expanding
 

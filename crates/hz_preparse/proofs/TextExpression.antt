@@ -15,15 +15,15 @@ use Rattle.hz_tree.specs.grammar.Classes.{same_class, fits, is_name, is_arrow, i
 use Rattle.hz_tree.specs.grammar.Look.{Terminal, look, stuck, is_async}
 use Rattle.hz_tree.specs.grammar.Symbols.{assignment, goes, refuses, Value, Parts, of_script}
 use Rattle.hz_tree.specs.grammar.Table.{row}
-use Rattle.hz_tree.specs.reading.Reading.{Got, Stuck, takes, reads}
+use Rattle.hz_tree.specs.reading.Reading.{Got, Stuck, takes, has_octal, reads}
 use Rattle.hz_tree.specs.grammar.ExpressionRows.{listed}
 use Rattle.hz_tree.specs.grammar.Operators.{level_behind}
-use Rattle.hz_tree.specs.grammar.OperatorRows.{operated, arrow_row, operation_by}
-use Rattle.hz_tree.specs.grammar.PrimaryRows.{has_octal, primary_by}
+use Rattle.hz_tree.specs.grammar.OperatorRows.{operated, no_tails, arrow_row, operation_by}
+use Rattle.hz_tree.specs.grammar.PrimaryRows.{primary_by}
 use Rattle.hz_preparse.specs.Prologue.{is_comma, goes_on}
 use Rattle.hz_preparse.proofs.Readings.{ReadsAll, RowGives, gives}
 use Rattle.hz_preparse.proofs.TextRows.{text_of, false_true, none_operated, filled_operated, is_filled, none_listed}
-use Rattle.hz_preparse.proofs.TextRows.{script_rests, rests_take, rests_empty, comma_takes, comma_empty}
+use Rattle.hz_preparse.proofs.TextRows.{script_tails, rests_take, rests_empty, comma_takes, comma_empty}
 
 pub text_tree : Terminal → Tree
 text_tree x = t.Text x.token.at x.token.text (has_octal x.token.kind)
@@ -113,8 +113,8 @@ primary_text x us v rest h is =
     by_text : RowGives (n.Primary of_script) (λ v rest. (v ≡ text_tree x)
         × (rest ≡ us)) (x ∷ us) (primary_by of_script (look (x ∷ us)) k.Text)
     by_text parts rest all =
-        let took = took_text x us parts.0 all.0 all.1.0 h in
-        (ap text_tree took.0, all.1.1 ∙ took.1)
+        let took = took_text x us parts.1.0 all.1.0 all.1.1.0 h in
+        (ap (λ told. t.Text told.at told.text told.octal) all.0, all.1.1.1 ∙ took.1)
 
     either : (b : Bool)
         → RowGives (n.Primary of_script) (λ v rest. (v ≡ text_tree x) × (rest ≡ us)) (x ∷ us)
@@ -135,12 +135,12 @@ operand_text : (x : Terminal) (us : List Terminal) → x.class ≡ k.Text
     (operation_by level.Assignment of_script false k.Text)
 operand_text x us h parts rest all =
     let first = primary_text x us parts.0 all.0 h all.1.0 in
-    let read = last_read script_rests all.0 parts.1 rest all.1.1 in
-    stage (text_tree x) parts.0 us all.0 rest false (operates (look us)) parts.1.0 [] operated
+    let read = last_read script_tails all.0 parts.1 rest all.1.1 in
+    stage (text_tree x) parts.0 us all.0 rest false (operates (look us)) parts.1.0 (no_tails []) operated
     (record { alone = λ e. first; longer = λ e. absurd (false_true e) })
-    (λ e same. empty_at script_rests [] us all.0 parts.1.0 rest (rests_empty (look us) e) same read)
+    (λ e same. empty_at script_tails (no_tails []) us all.0 parts.1.0 rest (rests_empty (look us) e) same read)
     (λ e same. filled_operated (text_tree x) parts.1.0
-    (gives_at script_rests (λ w rest. is_filled w ≡ true) us all.0 parts.1.0 rest (rests_take us (look us) e) same
+    (gives_at script_tails (λ w rest. is_filled w ≡ true) us all.0 parts.1.0 rest (rests_take us (look us) e) same
     read))
     refl (none_operated parts.0 parts.1.0)
 
@@ -159,10 +159,10 @@ pub expr_text : (x : Terminal) (us : List Terminal) (v : Tree) (rest : List Term
 expr_text x us v rest h is =
     gives (n.Expr of_script) (λ v rest. Stage (text_tree x) v us rest (goes_on (look us))) (x ∷ us) v rest
     (λ parts rest all.
-    let read = last_read (n.ExprRest of_script) all.0 parts.1 rest all.1.1 in
+    let read = last_read (n.ExprRest false of_script) all.0 parts.1 rest all.1.1 in
     stage (text_tree x) parts.0 us all.0 rest (operates (look us)) (is_comma (look us).one) parts.1.0 [] listed
     (assign_text x us parts.0 all.0 h all.1.0)
-    (λ e same. empty_at (n.ExprRest of_script) [] us all.0 parts.1.0 rest (comma_empty (look us).one e) same read)
-    (λ e same. gives_at (n.ExprRest of_script) (λ w rest. text_of (listed (text_tree x) w)
+    (λ e same. empty_at (n.ExprRest false of_script) [] us all.0 parts.1.0 rest (comma_empty (look us).one e) same read)
+    (λ e same. gives_at (n.ExprRest false of_script) (λ w rest. text_of (listed (text_tree x) w)
     ≡ None) us all.0 parts.1.0 rest (comma_takes (text_tree x) us (look us).one e) same read)
     refl (none_listed parts.0 parts.1.0)) is

@@ -7,9 +7,9 @@ ghost use Rattle.hz_tree.specs.tokens.Tokens.{lexeme};
 ghost use Rattle.hz_preparse.specs.Hearing.{Hears, item_heard};
 ghost use Rattle.hz_preparse.specs.Prologue.{goes_on_by, prologue};
 
+use hz_list::Memory;
 use hz_scan::{Tokens, class_of};
 use hz_tree::{Class, Token};
-use hz_value::Memory;
 use std::alloc::Global;
 
 /// What the next token tells of the directives.

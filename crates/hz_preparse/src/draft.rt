@@ -1,8 +1,8 @@
 ghost use Rattle.std.specs.Prelude.{◌≡◌};
 ghost use Rattle.hz_tree.specs.trees.Drafts.{change, counted, ended};
 
+use hz_list::Memory;
 use hz_tree::{FunctionInfo, FunctionInfos, FunctionKind};
-use hz_value::Memory;
 use std::alloc::Global;
 use std::marker::Model;
 
@@ -26,8 +26,7 @@ impl Model for Draft {
 
 impl Draft {
     ghost use Rattle.std.specs.Prelude.{◌≡◌, IfOk, OnOk};
-    ghost use Rattle.hz_tree.specs.reading.Reading.{Opened, Counted, Closed};
-    ghost use Rattle.hz_tree.specs.trees.Drafts.{happens, begun, innermost as innermost_of};
+    ghost use Rattle.hz_tree.specs.trees.Drafts.{begun, opens, counts, closes, innermost as innermost_of};
 
     /// The script alone.
     pub fn new(alloc: Global, source: &[u8]) -> Result<Draft, Memory>
@@ -48,7 +47,7 @@ impl Draft {
 
     /// A function starts at a place. Its end is set when it ends.
     pub fn open(&mut self, kind: FunctionKind, at: usize) -> Result<(), Memory>
-        ensures { OnOk result (self.new ≡ happens self.old (Opened kind at)) }
+        ensures { OnOk result (self.new ≡ opens kind at self.old) }
     {
         let number = self.functions.len();
         let parent = self.innermost();
@@ -65,7 +64,7 @@ impl Draft {
 
     /// The innermost function has one more parameter.
     pub fn count(&mut self)
-        ensures { self.new ≡ happens self.old Counted }
+        ensures { self.new ≡ counts self.old }
     {
         if let Some(number) = self.innermost() {
             count_parameter(&mut self.functions, number);
@@ -74,7 +73,7 @@ impl Draft {
 
     /// The innermost function ends.
     pub fn close(&mut self, end: usize)
-        ensures { self.new ≡ happens self.old (Closed end) }
+        ensures { self.new ≡ closes end self.old }
     {
         if let Some(number) = self.opened.pop() {
             end_function(&mut self.functions, number, end);

@@ -1,5 +1,5 @@
+use hz_list::Memory;
 use hz_tree::Refusal;
-use hz_value::Memory;
 
 /// Why a source has no index.
 #[derive(Clone, Copy, Debug, PartialEq, Eq)]

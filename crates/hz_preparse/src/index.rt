@@ -9,8 +9,8 @@ use crate::draft::Draft;
 use crate::fault::PreFault;
 use crate::recogniser::recognise;
 use hz_cursor::Cursor;
+use hz_list::Memory;
 use hz_tree::{FunctionInfos, Index, Refusal};
-use hz_value::Memory;
 use std::alloc::Global;
 
 /// The greatest length of a source, in bytes.

@@ -1,16 +1,20 @@
 //! The grammar's reading of a source, with a stack of symbols in place of recursion.
 
-ghost use Rattle.std.specs.Prelude.{◌≡◌, [], ◌∷◌};
+ghost use Rattle.std.specs.Prelude.{◌≡◌, [], ◌∷◌, OnOk};
 ghost use Rattle.hz_tree.specs.sources.Refusals as spec;
+ghost use Rattle.hz_tree.specs.grammar.Signals.{event};
+ghost use Rattle.hz_tree.specs.reading.Reading.{told_ahead};
 ghost use Rattle.hz_tree.specs.reading.Stack.{ends};
+ghost use Rattle.hz_tree.specs.trees.Drafts.{happens};
 ghost use Rattle.hz_preparse.specs.Outcome.{outcome, Answers};
 ghost use Rattle.hz_preparse.specs.Step.{Begins, TakesToken, Expands, StepsPast};
 
 use crate::draft::Draft;
 use crate::fault::PreFault;
 use hz_cursor::Cursor;
+use hz_list::Memory;
 use hz_rows::{Stack, Stop, expand};
-use hz_tree::{BadKind, Class, Nonterminal, Refusal, Symbol};
+use hz_tree::{BadKind, Class, Nonterminal, Refusal, Role, Signal, Symbol};
 use std::alloc::Global;
 
 /// Reads a script, and tells the draft of its functions.
@@ -48,9 +52,20 @@ fn step(
     match symbol {
         Symbol::Take(wanted) => return take(cursor, wanted),
         Symbol::Read(nonterminal) => return read(stack, cursor, nonterminal),
-        Symbol::Open(kind) => draft.open(kind, cursor.place())?,
-        Symbol::Count => draft.count(),
-        Symbol::Close => draft.close(cursor.behind()),
+        Symbol::Tell(signal) => tell(draft, cursor, signal)?,
+    }
+    Ok(())
+}
+
+/// Tells the draft what the grammar says before the next token.
+fn tell(draft: &mut Draft, cursor: &Cursor<'_>, signal: Signal) -> Result<(), Memory>
+    ensures { OnOk result (draft.new ≡ happens draft.old (event signal (told_ahead cursor.now))) }
+{
+    match signal {
+        Signal::Open(_, kind) => draft.open(kind, cursor.place())?,
+        Signal::Declare(Role::Parameter) => draft.count(),
+        Signal::Close => draft.close(cursor.behind()),
+        _ => {}
     }
     Ok(())
 }

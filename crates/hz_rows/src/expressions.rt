@@ -2,34 +2,54 @@
 
 ghost use Rattle.hz_tree.specs.grammar.Table.{step_of};
 ghost use Rattle.hz_tree.specs.grammar.ExpressionRows as row;
+ghost use Rattle.hz_tree.specs.declared.nonterminal.Context.{Context as In};
 ghost use Rattle.hz_rows.specs.Pushed.{Pushed};
 
 use crate::contexts::of_arrow;
 use crate::stack::Stack;
 use crate::stop::{Stop, stuck};
 use hz_tree::Nonterminal::{Body, ExprRest, Operation};
-use hz_tree::Symbol::{Read, Take};
-use hz_tree::{Class, Context, Level, Look};
+use hz_tree::Symbol::{Read, Take, Tell};
+use hz_tree::{Class, Context, Level, Look, NodeShape, Signal};
 
 pub fn expr_row(stack: &mut Stack, context: Context) -> Result<(), Stop>
     ensures { Pushed (step_of (row.expr_row context)) result stack.old stack.new }
 {
     stack.push(&[
         Read(Operation(Level::Assignment, context)),
-        Read(ExprRest(context)),
+        Read(ExprRest(false, context)),
     ])
 }
 
-pub fn expr_rest_row(stack: &mut Stack, context: Context, one: Class) -> Result<(), Stop>
-    ensures { Pushed (step_of (row.expr_rest_row context one)) result stack.old stack.new }
+/// The end of a list of expressions.
+fn expr_end(stack: &mut Stack, listed: bool) -> Result<(), Stop>
+    ensures { (context : In) → Pushed (step_of (row.expr_end listed context))
+        result stack.old stack.new }
+{
+    if listed {
+        stack.push(&[Tell(Signal::Node(NodeShape::Other))])
+    } else {
+        Ok(())
+    }
+}
+
+pub fn expr_rest_row(
+    stack: &mut Stack,
+    listed: bool,
+    context: Context,
+    one: Class,
+) -> Result<(), Stop>
+    ensures { Pushed (step_of (row.expr_rest_row listed context one))
+        result stack.old stack.new }
 {
     match one {
         Class::Comma => stack.push(&[
             Take(Class::Comma),
             Read(Operation(Level::Assignment, context)),
-            Read(ExprRest(context)),
+            Tell(Signal::Join),
+            Read(ExprRest(true, context)),
         ]),
-        _ => Ok(()),
+        _ => expr_end(stack, listed),
     }
 }
 
@@ -73,7 +93,11 @@ pub fn yield_value_row(stack: &mut Stack, context: Context, look: Look) -> Resul
         Class::Star => stack.push(&[
             Take(Class::Star),
             Read(Operation(Level::Assignment, context)),
+            Tell(Signal::Join),
         ]),
-        _ => stack.push(&[Read(Operation(Level::Assignment, context))]),
+        _ => stack.push(&[
+            Read(Operation(Level::Assignment, context)),
+            Tell(Signal::Join),
+        ]),
     }
 }

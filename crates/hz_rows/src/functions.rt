@@ -8,14 +8,14 @@ use crate::contexts::of_body;
 use crate::stack::Stack;
 use crate::stop::{Stop, left_out};
 use hz_tree::Nonterminal::{Bound, Items, MoreParameters, ParameterEnd, Parameters};
-use hz_tree::Symbol::{Count, Read, Take};
-use hz_tree::{Class, OutsideKind};
+use hz_tree::Symbol::{Read, Take, Tell};
+use hz_tree::{Class, NodeKind, OutsideKind, Role, Signal};
 
 pub fn own_name_row(stack: &mut Stack, one: Class) -> Result<(), Stop>
     ensures { Pushed (step_of (row.own_name_row one)) result stack.old stack.new }
 {
     if one.is_name() {
-        stack.push(&[Take(Class::Name)])
+        stack.push(&[Read(Bound(Role::Own))])
     } else {
         Ok(())
     }
@@ -36,8 +36,13 @@ pub fn parameters_row(stack: &mut Stack, one: Class) -> Result<(), Stop>
 {
     match one {
         Class::RightParen => Ok(()),
-        Class::Ellipsis => stack.push(&[Take(Class::Ellipsis), Read(Bound), Read(ParameterEnd)]),
-        _ => stack.push(&[Read(Bound), Count, Read(MoreParameters)]),
+        Class::Ellipsis => stack.push(&[
+            Tell(Signal::Rest),
+            Take(Class::Ellipsis),
+            Read(Bound(Role::RestParameter)),
+            Read(ParameterEnd),
+        ]),
+        _ => stack.push(&[Read(Bound(Role::Parameter)), Read(MoreParameters)]),
     }
 }
 
@@ -64,6 +69,7 @@ pub fn body_row(stack: &mut Stack, generator: bool) -> Result<(), Stop>
     ensures { Pushed (step_of (row.body_row generator)) result stack.old stack.new }
 {
     stack.push(&[
+        Tell(Signal::Begin(NodeKind::Body)),
         Take(Class::LeftBrace),
         Read(Items(of_body(generator))),
         Take(Class::RightBrace),

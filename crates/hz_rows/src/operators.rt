@@ -1,20 +1,26 @@
 //! Operations (ECMA-262, 13.3 to 13.16), arrows and `yield` (15.3 and 15.5).
 
-ghost use Rattle.std.specs.Prelude.{◌≡◌};
+ghost use Rattle.std.specs.Prelude.{◌≡◌, Option, Some};
 ghost use Rattle.hz_tree.specs.grammar.Table.{step_of};
 ghost use Rattle.hz_tree.specs.grammar.OperatorRows as row;
 ghost use Rattle.hz_tree.specs.grammar.Operators as operators;
+ghost use Rattle.hz_tree.specs.declared.operator.BinaryOperator.{BinaryOperator as Binary};
+ghost use Rattle.hz_tree.specs.declared.operator.Level.{Level as Tightness};
+ghost use Rattle.hz_tree.specs.declared.operator.UpdateOperator.{UpdateOperator as Update};
 ghost use Rattle.hz_rows.specs.Pushed.{Pushed};
 
 use crate::contexts::with_in;
 use crate::stack::Stack;
 use crate::stop::{Stop, left_out};
 use hz_tree::Nonterminal::{
-    Args, ArrowBody, ArrowSign, Bound, Expr, Operation, OptionalTail, Params, Primary, Rests, Word,
-    YieldValue,
+    Args, ArrowBody, ArrowSign, Bound, Expr, Operation, OptionalTail, Params, Primary, Rests,
+    Tails, Word, YieldValue,
 };
-use hz_tree::Symbol::{Close, Count, Open, Read, Take};
-use hz_tree::{Class, Context, FunctionKind, Level, Look, OutsideKind};
+use hz_tree::Symbol::{Read, Take, Tell};
+use hz_tree::{
+    AssignOperator, Class, Context, FunctionKind, Level, Look, NodeKind, NodeShape, OutsideKind,
+    Role, Signal,
+};
 
 fn arrow_row(
     stack: &mut Stack,
@@ -27,20 +33,25 @@ fn arrow_row(
 {
     if parenthesised {
         stack.push(&[
-            Open(FunctionKind::Arrow),
+            Tell(Signal::Open(NodeKind::Operand, FunctionKind::Arrow)),
+            Tell(Signal::Enter),
             Read(Params),
             Read(ArrowSign),
             Read(ArrowBody(context)),
-            Close,
+            Tell(Signal::Join),
+            Tell(Signal::Close),
+            Tell(Signal::Node(NodeShape::Other)),
         ])
     } else {
         stack.push(&[
-            Open(FunctionKind::Arrow),
-            Read(Bound),
-            Count,
+            Tell(Signal::Open(NodeKind::Operand, FunctionKind::Arrow)),
+            Tell(Signal::Enter),
+            Read(Bound(Role::Parameter)),
             Read(ArrowSign),
             Read(ArrowBody(context)),
-            Close,
+            Tell(Signal::Join),
+            Tell(Signal::Close),
+            Tell(Signal::Node(NodeShape::Other)),
         ])
     }
 }
@@ -52,14 +63,15 @@ fn operand_row(stack: &mut Stack, loosest: Level, context: Context, one: Class) 
 {
     match one.unary_operator() {
         Some(operator) => stack.push(&[
+            Tell(Signal::Begin(NodeKind::Operand)),
             Take(one),
             Read(Operation(Level::Update, context)),
+            Tell(Signal::Unary(operator)),
+            Tell(Signal::Join),
+            Tell(Signal::Node(NodeShape::Other)),
             Read(Rests(loosest, operator.left(), context)),
         ]),
-        None => stack.push(&[
-            Read(Primary(context)),
-            Read(Rests(loosest, Level::Member, context)),
-        ]),
+        None => stack.push(&[Read(Primary(context)), Read(Tails(false, loosest, context))]),
     }
 }
 
@@ -81,7 +93,12 @@ fn operation_by(
         result stack.old stack.new }
 {
     match one {
-        Class::Yield if yields => stack.push(&[Take(Class::Yield), Read(YieldValue(context))]),
+        Class::Yield if yields => stack.push(&[
+            Tell(Signal::Begin(NodeKind::Operand)),
+            Take(Class::Yield),
+            Read(YieldValue(context)),
+            Tell(Signal::Node(NodeShape::Other)),
+        ]),
         _ => operand_row(stack, loosest, context, one),
     }
 }
@@ -113,6 +130,26 @@ fn reads_on(loosest: Level, tightest: Level, context: Context, newline: bool, on
         }
 }
 
+/// An assignment.
+fn assign_row(
+    stack: &mut Stack,
+    operator: AssignOperator,
+    one: Class,
+    context: Context,
+) -> Result<(), Stop>
+    ensures { (loosest tightest : Tightness) (updated : Option Update) (joined : Option Binary) →
+        Pushed (step_of (row.operator_row loosest tightest context one (Some operator)
+        updated joined)) result stack.old stack.new }
+{
+    stack.push(&[
+        Tell(Signal::Target(operator.takes_pattern())),
+        Take(one),
+        Read(Operation(Level::Assignment, context)),
+        Tell(Signal::Join),
+        Tell(Signal::Node(NodeShape::Other)),
+    ])
+}
+
 /// An operator and what follows it.
 fn operator_row(
     stack: &mut Stack,
@@ -125,11 +162,16 @@ fn operator_row(
         (operators.assign_operator one) (operators.update_operator one)
         (operators.binary_operator one))) result stack.old stack.new }
 {
-    if one.assign_operator().is_some() {
-        return stack.push(&[Take(one), Read(Operation(Level::Assignment, context))]);
+    if let Some(operator) = one.assign_operator() {
+        return assign_row(stack, operator, one, context);
     }
     if one.update_operator().is_some() {
-        return stack.push(&[Take(one), Read(Rests(loosest, Level::Power, context))]);
+        return stack.push(&[
+            Tell(Signal::Target(false)),
+            Take(one),
+            Tell(Signal::Node(NodeShape::Other)),
+            Read(Rests(loosest, Level::Power, context)),
+        ]);
     }
     match one.binary_operator() {
         Some(operator) => {
@@ -137,6 +179,8 @@ fn operator_row(
             stack.push(&[
                 Take(one),
                 Read(Operation(own.right(), context)),
+                Tell(Signal::Join),
+                Tell(Signal::Node(NodeShape::Other)),
                 Read(Rests(loosest, own.left(), context)),
             ])
         }
@@ -155,29 +199,15 @@ fn rest_row(
     ensures { Pushed (step_of (row.rest_row loosest tightest context one))
         result stack.old stack.new }
 {
-    let members = Read(Rests(loosest, Level::Member, context));
     match one {
-        Class::Dot => stack.push(&[Take(Class::Dot), Read(Word), members]),
-        Class::LeftBracket => stack.push(&[
-            Take(Class::LeftBracket),
-            Read(Expr(with_in(context))),
-            Take(Class::RightBracket),
-            members,
-        ]),
-        Class::LeftParen => stack.push(&[Read(Args(context)), members]),
-        Class::OptionalDot => {
-            stack.push(&[
-                Take(Class::OptionalDot),
-                Read(OptionalTail(context)),
-                members,
-            ])
-        }
-        Class::TemplateWhole | Class::TemplateHead => left_out(OutsideKind::TaggedTemplate),
         Class::Question => stack.push(&[
             Take(Class::Question),
             Read(Operation(Level::Assignment, with_in(context))),
+            Tell(Signal::Join),
             Take(Class::Colon),
             Read(Operation(Level::Assignment, context)),
+            Tell(Signal::Join),
+            Tell(Signal::Node(NodeShape::Other)),
             Read(Rests(loosest, Level::Assignment, context)),
         ]),
         _ => operator_row(stack, loosest, tightest, context, one),
@@ -198,5 +228,59 @@ pub fn rests_row(
         rest_row(stack, loosest, tightest, context, look.one)
     } else {
         Ok(())
+    }
+}
+
+/// The end of the members and calls behind an operand.
+fn tails_end(
+    stack: &mut Stack,
+    tailed: bool,
+    loosest: Level,
+    context: Context,
+    look: Look,
+) -> Result<(), Stop>
+    ensures { Pushed (step_of (row.tails_end tailed loosest context look))
+        result stack.old stack.new }
+{
+    if tailed {
+        stack.push(&[
+            Tell(Signal::Node(NodeShape::Same)),
+            Read(Rests(loosest, Level::Update, context)),
+        ])
+    } else {
+        rests_row(stack, loosest, Level::Update, context, look)
+    }
+}
+
+pub fn tails_row(
+    stack: &mut Stack,
+    tailed: bool,
+    loosest: Level,
+    context: Context,
+    look: Look,
+) -> Result<(), Stop>
+    ensures { Pushed (step_of (row.tails_row tailed loosest context look))
+        result stack.old stack.new }
+{
+    let more = Read(Tails(true, loosest, context));
+    match look.one {
+        Class::Dot => stack.push(&[Take(Class::Dot), Read(Word), Tell(Signal::Member), more]),
+        Class::LeftBracket => stack.push(&[
+            Take(Class::LeftBracket),
+            Read(Expr(with_in(context))),
+            Tell(Signal::Join),
+            Take(Class::RightBracket),
+            Tell(Signal::Member),
+            more,
+        ]),
+        Class::LeftParen => stack.push(&[Read(Args(context)), more]),
+        Class::OptionalDot => stack.push(&[
+            Take(Class::OptionalDot),
+            Read(OptionalTail(context)),
+            Tell(Signal::Chain),
+            more,
+        ]),
+        Class::TemplateWhole | Class::TemplateHead => left_out(OutsideKind::TaggedTemplate),
+        _ => tails_end(stack, tailed, loosest, context, look),
     }
 }

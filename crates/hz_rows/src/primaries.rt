@@ -11,8 +11,10 @@ use hz_tree::Nonterminal::{
     Args, Argument, Arguments, Body, Elements, Expr, Members, MoreArguments, MoreElements, NewArgs,
     Operation, OwnName, Params, Primary, Props, TemplateRest, Word,
 };
-use hz_tree::Symbol::{Close, Open, Read, Take};
-use hz_tree::{BadKind, Class, Context, FunctionKind, Level, Look, OutsideKind};
+use hz_tree::Symbol::{Read, Take, Tell};
+use hz_tree::{
+    BadKind, Class, Context, FunctionKind, Level, Look, NodeKind, NodeShape, OutsideKind, Signal,
+};
 
 pub fn optional_tail_row(stack: &mut Stack, context: Context, one: Class) -> Result<(), Stop>
     ensures { Pushed (step_of (row.optional_tail_row context one)) result stack.old stack.new }
@@ -21,11 +23,13 @@ pub fn optional_tail_row(stack: &mut Stack, context: Context, one: Class) -> Res
         Class::LeftBracket => stack.push(&[
             Take(Class::LeftBracket),
             Read(Expr(with_in(context))),
+            Tell(Signal::Join),
             Take(Class::RightBracket),
+            Tell(Signal::Member),
         ]),
         Class::LeftParen => stack.push(&[Read(Args(context))]),
         Class::TemplateWhole | Class::TemplateHead => left_out(OutsideKind::TaggedTemplate),
-        _ => stack.push(&[Read(Word)]),
+        _ => stack.push(&[Read(Word), Tell(Signal::Member)]),
     }
 }
 
@@ -44,12 +48,20 @@ fn new_row(stack: &mut Stack, context: Context, two: Class) -> Result<(), Stop>
     ensures { Pushed (step_of (row.new_row context two)) result stack.old stack.new }
 {
     match two {
-        Class::Dot => stack.push(&[Take(Class::New), Take(Class::Dot), Take(Class::Target)]),
+        Class::Dot => stack.push(&[
+            Tell(Signal::NewTarget),
+            Take(Class::New),
+            Take(Class::Dot),
+            Take(Class::Target),
+        ]),
         _ => stack.push(&[
+            Tell(Signal::Begin(NodeKind::Operand)),
             Take(Class::New),
             Read(Primary(context)),
+            Tell(Signal::Join),
             Read(Members(context)),
             Read(NewArgs(context)),
+            Tell(Signal::Node(NodeShape::Other)),
         ]),
     }
 }
@@ -58,11 +70,18 @@ pub fn members_row(stack: &mut Stack, context: Context, one: Class) -> Result<()
     ensures { Pushed (step_of (row.members_row context one)) result stack.old stack.new }
 {
     match one {
-        Class::Dot => stack.push(&[Take(Class::Dot), Read(Word), Read(Members(context))]),
+        Class::Dot => stack.push(&[
+            Take(Class::Dot),
+            Read(Word),
+            Tell(Signal::Member),
+            Read(Members(context)),
+        ]),
         Class::LeftBracket => stack.push(&[
             Take(Class::LeftBracket),
             Read(Expr(with_in(context))),
+            Tell(Signal::Join),
             Take(Class::RightBracket),
+            Tell(Signal::Member),
             Read(Members(context)),
         ]),
         _ => Ok(()),
@@ -83,9 +102,11 @@ pub fn args_row(stack: &mut Stack, context: Context) -> Result<(), Stop>
     ensures { Pushed (step_of (row.args_row context)) result stack.old stack.new }
 {
     stack.push(&[
+        Tell(Signal::Arguments),
         Take(Class::LeftParen),
         Read(Arguments(with_in(context))),
         Take(Class::RightParen),
+        Tell(Signal::Call),
     ])
 }
 
@@ -94,7 +115,11 @@ pub fn arguments_row(stack: &mut Stack, context: Context, one: Class) -> Result<
 {
     match one {
         Class::RightParen => Ok(()),
-        _ => stack.push(&[Read(Argument(context)), Read(MoreArguments(context))]),
+        _ => stack.push(&[
+            Read(Argument(context)),
+            Tell(Signal::Argument),
+            Read(MoreArguments(context)),
+        ]),
     }
 }
 
@@ -112,8 +137,10 @@ pub fn argument_row(stack: &mut Stack, context: Context, one: Class) -> Result<(
 {
     match one {
         Class::Ellipsis => stack.push(&[
+            Tell(Signal::Begin(NodeKind::Part)),
             Take(Class::Ellipsis),
             Read(Operation(Level::Assignment, context)),
+            Tell(Signal::Join),
         ]),
         _ => stack.push(&[Read(Operation(Level::Assignment, context))]),
     }
@@ -126,21 +153,27 @@ fn function_expression_row(stack: &mut Stack, context: Context, two: Class) -> R
 {
     match two {
         Class::Star => stack.push(&[
-            Open(FunctionKind::Generator),
+            Tell(Signal::Open(NodeKind::Operand, FunctionKind::Generator)),
             Take(Class::Function),
             Take(Class::Star),
             Read(OwnName),
+            Tell(Signal::Enter),
             Read(Params),
             Read(Body(true)),
-            Close,
+            Tell(Signal::Join),
+            Tell(Signal::Close),
+            Tell(Signal::Node(NodeShape::Other)),
         ]),
         _ => stack.push(&[
-            Open(FunctionKind::Function),
+            Tell(Signal::Open(NodeKind::Operand, FunctionKind::Function)),
             Take(Class::Function),
             Read(OwnName),
+            Tell(Signal::Enter),
             Read(Params),
             Read(Body(false)),
-            Close,
+            Tell(Signal::Join),
+            Tell(Signal::Close),
+            Tell(Signal::Node(NodeShape::Other)),
         ]),
     }
 }
@@ -151,40 +184,52 @@ fn primary_by(stack: &mut Stack, context: Context, look: Look) -> Result<(), Sto
         result stack.old stack.new }
 {
     match look.one {
-        Class::This
-        | Class::Null
-        | Class::True
-        | Class::False
-        | Class::Number
-        | Class::OctalNumber
-        | Class::Text
-        | Class::TemplateWhole => stack.push(&[Take(look.one)]),
+        Class::This => stack.push(&[Tell(Signal::This), Take(Class::This)]),
+        Class::Null | Class::True | Class::False | Class::Number => {
+            stack.push(&[Tell(Signal::Literal), Take(look.one)])
+        }
+        Class::OctalNumber => stack.push(&[Tell(Signal::Octal), Take(Class::OctalNumber)]),
+        Class::Text => stack.push(&[Tell(Signal::Text), Take(Class::Text)]),
+        Class::TemplateWhole => stack.push(&[
+            Tell(Signal::Begin(NodeKind::Operand)),
+            Take(Class::TemplateWhole),
+            Tell(Signal::Node(NodeShape::Other)),
+        ]),
         Class::LeftParen => stack.push(&[
+            Tell(Signal::Begin(NodeKind::Operand)),
             Take(Class::LeftParen),
             Read(Expr(with_in(context))),
             Take(Class::RightParen),
+            Tell(Signal::Parentheses),
         ]),
         Class::TemplateHead => stack.push(&[
+            Tell(Signal::Begin(NodeKind::Operand)),
             Take(Class::TemplateHead),
             Read(Expr(with_in(context))),
+            Tell(Signal::Join),
             Read(TemplateRest(with_in(context))),
+            Tell(Signal::Node(NodeShape::Other)),
         ]),
         Class::New => new_row(stack, context, look.two),
         Class::Slash | Class::SlashAssign => left_out(OutsideKind::RegExp),
         Class::Function => function_expression_row(stack, context, look.two),
         Class::LeftBracket => stack.push(&[
+            Tell(Signal::Begin(NodeKind::Operand)),
             Take(Class::LeftBracket),
             Read(Elements(with_in(context))),
             Take(Class::RightBracket),
+            Tell(Signal::Node(NodeShape::Pattern)),
         ]),
         Class::LeftBrace => stack.push(&[
+            Tell(Signal::Begin(NodeKind::Operand)),
             Take(Class::LeftBrace),
             Read(Props(with_in(context))),
             Take(Class::RightBrace),
+            Tell(Signal::Node(NodeShape::Pattern)),
         ]),
         one => {
             if one.is_name() {
-                stack.push(&[Take(Class::Name)])
+                stack.push(&[Tell(Signal::Name), Take(Class::Name)])
             } else {
                 stuck(look)
             }
@@ -210,6 +255,7 @@ pub fn template_rest_row(stack: &mut Stack, context: Context, look: Look) -> Res
         Class::TemplateMiddle => stack.push(&[
             Take(Class::TemplateMiddle),
             Read(Expr(context)),
+            Tell(Signal::Join),
             Read(TemplateRest(context)),
         ]),
         Class::TemplateTail => stack.push(&[Take(Class::TemplateTail)]),
@@ -222,8 +268,17 @@ pub fn elements_row(stack: &mut Stack, context: Context, one: Class) -> Result<(
 {
     match one {
         Class::RightBracket => Ok(()),
-        Class::Comma => stack.push(&[Take(Class::Comma), Read(Elements(context))]),
-        _ => stack.push(&[Read(Argument(context)), Read(MoreElements(context))]),
+        Class::Comma => stack.push(&[
+            Tell(Signal::Begin(NodeKind::Part)),
+            Tell(Signal::Join),
+            Take(Class::Comma),
+            Read(Elements(context)),
+        ]),
+        _ => stack.push(&[
+            Read(Argument(context)),
+            Tell(Signal::Join),
+            Read(MoreElements(context)),
+        ]),
     }
 }
 

@@ -11,15 +11,19 @@ use hz_tree::Nonterminal::{
     Body, Bound, Key, KeyRest, MoreProps, Operation, ParameterEnd, Params, Prop, Props,
     ShorthandEnd, Word,
 };
-use hz_tree::Symbol::{Close, Count, Open, Read, Take};
-use hz_tree::{Class, Context, FunctionKind, Level, Look, OutsideKind};
+use hz_tree::Symbol::{Read, Take, Tell};
+use hz_tree::{Class, Context, FunctionKind, Level, Look, NodeKind, OutsideKind, Role, Signal};
 
 pub fn props_row(stack: &mut Stack, context: Context, one: Class) -> Result<(), Stop>
     ensures { Pushed (step_of (row.props_row context one)) result stack.old stack.new }
 {
     match one {
         Class::RightBrace => Ok(()),
-        _ => stack.push(&[Read(Prop(context)), Read(MoreProps(context))]),
+        _ => stack.push(&[
+            Read(Prop(context)),
+            Tell(Signal::Join),
+            Read(MoreProps(context)),
+        ]),
     }
 }
 
@@ -37,9 +41,18 @@ fn plain_prop_row(stack: &mut Stack, context: Context, look: Look) -> Result<(),
     ensures { Pushed (step_of (row.plain_prop_row context look)) result stack.old stack.new }
 {
     if look.one.is_name() && !look.two.is_colon() && !look.two.is_paren() {
-        stack.push(&[Take(Class::Name), Read(ShorthandEnd)])
+        stack.push(&[
+            Tell(Signal::Begin(NodeKind::Part)),
+            Tell(Signal::Use),
+            Take(Class::Name),
+            Read(ShorthandEnd),
+        ])
     } else {
-        stack.push(&[Read(Key(context)), Read(KeyRest(context))])
+        stack.push(&[
+            Tell(Signal::Begin(NodeKind::Part)),
+            Read(Key(context)),
+            Read(KeyRest(context)),
+        ])
     }
 }
 
@@ -50,13 +63,17 @@ fn getter_row(stack: &mut Stack, context: Context, look: Look) -> Result<(), Sto
 {
     if look.two.begins_key() {
         stack.push(&[
+            Tell(Signal::Begin(NodeKind::Part)),
             Take(Class::Get),
             Read(Key(context)),
-            Open(FunctionKind::Method),
+            Tell(Signal::Open(NodeKind::Part, FunctionKind::Method)),
+            Tell(Signal::Enter),
             Take(Class::LeftParen),
             Take(Class::RightParen),
             Read(Body(false)),
-            Close,
+            Tell(Signal::Join),
+            Tell(Signal::Close),
+            Tell(Signal::Join),
         ])
     } else {
         plain_prop_row(stack, context, look)
@@ -70,16 +87,19 @@ fn setter_row(stack: &mut Stack, context: Context, look: Look) -> Result<(), Sto
 {
     if look.two.begins_key() {
         stack.push(&[
+            Tell(Signal::Begin(NodeKind::Part)),
             Take(Class::Set),
             Read(Key(context)),
-            Open(FunctionKind::Method),
+            Tell(Signal::Open(NodeKind::Part, FunctionKind::Method)),
+            Tell(Signal::Enter),
             Take(Class::LeftParen),
-            Read(Bound),
-            Count,
+            Read(Bound(Role::Parameter)),
             Read(ParameterEnd),
             Take(Class::RightParen),
             Read(Body(false)),
-            Close,
+            Tell(Signal::Join),
+            Tell(Signal::Close),
+            Tell(Signal::Join),
         ])
     } else {
         plain_prop_row(stack, context, look)
@@ -93,16 +113,22 @@ fn prop_by(stack: &mut Stack, context: Context, look: Look) -> Result<(), Stop>
 {
     match look.one {
         Class::Ellipsis => stack.push(&[
+            Tell(Signal::Begin(NodeKind::Part)),
             Take(Class::Ellipsis),
             Read(Operation(Level::Assignment, context)),
+            Tell(Signal::Join),
         ]),
         Class::Star => stack.push(&[
+            Tell(Signal::Begin(NodeKind::Part)),
             Take(Class::Star),
             Read(Key(context)),
-            Open(FunctionKind::Generator),
+            Tell(Signal::Open(NodeKind::Part, FunctionKind::Generator)),
+            Tell(Signal::Enter),
             Read(Params),
             Read(Body(true)),
-            Close,
+            Tell(Signal::Join),
+            Tell(Signal::Close),
+            Tell(Signal::Join),
         ]),
         Class::Get => getter_row(stack, context, look),
         Class::Set => setter_row(stack, context, look),
@@ -134,14 +160,19 @@ pub fn key_rest_row(stack: &mut Stack, context: Context, look: Look) -> Result<(
 {
     match look.one {
         Class::Colon => stack.push(&[
+            Tell(Signal::Valued),
             Take(Class::Colon),
             Read(Operation(Level::Assignment, context)),
+            Tell(Signal::Join),
         ]),
         Class::LeftParen => stack.push(&[
-            Open(FunctionKind::Method),
+            Tell(Signal::Open(NodeKind::Part, FunctionKind::Method)),
+            Tell(Signal::Enter),
             Read(Params),
             Read(Body(false)),
-            Close,
+            Tell(Signal::Join),
+            Tell(Signal::Close),
+            Tell(Signal::Join),
         ]),
         _ => stuck(look),
     }
@@ -151,12 +182,15 @@ pub fn key_row(stack: &mut Stack, context: Context, look: Look) -> Result<(), St
     ensures { Pushed (step_of (row.key_row context look)) result stack.old stack.new }
 {
     match look.one {
-        Class::Text | Class::Number | Class::OctalNumber => stack.push(&[Take(look.one)]),
+        Class::Text => stack.push(&[Tell(Signal::TextKey), Take(Class::Text)]),
+        Class::Number => stack.push(&[Take(Class::Number)]),
+        Class::OctalNumber => stack.push(&[Tell(Signal::OctalKey), Take(Class::OctalNumber)]),
         Class::LeftBracket => stack.push(&[
             Take(Class::LeftBracket),
             Read(Operation(Level::Assignment, context)),
+            Tell(Signal::Join),
             Take(Class::RightBracket),
         ]),
-        _ => stack.push(&[Read(Word)]),
+        _ => stack.push(&[Tell(Signal::WordKey), Read(Word)]),
     }
 }

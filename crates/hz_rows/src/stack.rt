@@ -1,4 +1,5 @@
 use crate::stop::Stop;
+use hz_list::Series;
 use hz_tree::Symbol;
 use std::alloc::Global;
 use std::marker::Model;
@@ -6,7 +7,7 @@ use std::marker::Model;
 /// The symbols that are still to be read. Contracts see the list of them, the next one first: it is on top.
 #[derive(Debug, Drop)]
 pub struct Stack {
-    symbols: Vec<Symbol>,
+    symbols: Series<Symbol>,
 }
 
 impl Model for Stack {
@@ -15,7 +16,7 @@ impl Model for Stack {
 
     ghost Value = { List Symbol };
 
-    ghost view = { λ s. reverse s.symbols.items };
+    ghost view = { λ s. reverse s.symbols };
 }
 
 impl Stack {
@@ -28,7 +29,7 @@ impl Stack {
         ensures { result ≡ [] }
     {
         Stack {
-            symbols: Vec::new(alloc),
+            symbols: Series::new(alloc),
         }
     }
 

@@ -1,6 +1,7 @@
 //! Items and statements (ECMA-262, 14 and 16).
 
-ghost use Rattle.hz_tree.specs.grammar.Table.{step_of};
+ghost use Rattle.std.specs.Prelude.{[], ◌∷◌};
+ghost use Rattle.hz_tree.specs.grammar.Table.{pushes, step_of};
 ghost use Rattle.hz_tree.specs.grammar.StatementRows as row;
 ghost use Rattle.hz_tree.specs.declared.look.Look.{Look as Seen};
 ghost use Rattle.hz_rows.specs.Pushed.{Pushed};
@@ -13,13 +14,20 @@ use hz_tree::Nonterminal::{
     Handlers, Head, Initial, Item, Items, Label, LooseSemi, MoreBinds, Operation, Params,
     ReturnValue, Semi, Statement, ThrowValue,
 };
-use hz_tree::Symbol::{Close, Open, Read, Take};
-use hz_tree::{BadKind, Class, Context, FunctionKind, Level, Look, OutsideKind};
+use hz_tree::Symbol::{Read, Take, Tell};
+use hz_tree::{
+    BadKind, Class, Context, DeclarationWord, FunctionKind, Jump, Level, Look, NodeKind,
+    Nonterminal, OutsideKind, Role, ScopeKind, Signal, Symbol,
+};
 
 pub fn script_row(stack: &mut Stack) -> Result<(), Stop>
     ensures { Pushed (step_of row.script_row) result stack.old stack.new }
 {
-    stack.push(&[Read(Items(of_script())), Take(Class::End)])
+    stack.push(&[
+        Tell(Signal::Begin(NodeKind::Body)),
+        Read(Items(of_script())),
+        Take(Class::End),
+    ])
 }
 
 pub fn items_row(stack: &mut Stack, context: Context, one: Class) -> Result<(), Stop>
@@ -33,26 +41,31 @@ pub fn items_row(stack: &mut Stack, context: Context, one: Class) -> Result<(), 
 
 /// A declaration of a function, where `function` stands.
 fn declaration_row(stack: &mut Stack, context: Context, two: Class) -> Result<(), Stop>
-    ensures { Pushed (step_of (row.item_row context Class.Function two))
-        result stack.old stack.new }
+    ensures { Pushed (step_of (row.declaration_row context two)) result stack.old stack.new }
 {
     match two {
         Class::Star => stack.push(&[
-            Open(FunctionKind::Generator),
+            Tell(Signal::Open(NodeKind::Statement, FunctionKind::Generator)),
             Take(Class::Function),
             Take(Class::Star),
-            Read(Bound),
+            Read(Bound(Role::Function)),
+            Tell(Signal::Enter),
             Read(Params),
             Read(Body(true)),
-            Close,
+            Tell(Signal::Join),
+            Tell(Signal::Close),
+            Tell(Signal::End(NodeKind::Statement)),
         ]),
         _ => stack.push(&[
-            Open(FunctionKind::Function),
+            Tell(Signal::Open(NodeKind::Statement, FunctionKind::Function)),
             Take(Class::Function),
-            Read(Bound),
+            Read(Bound(Role::Function)),
+            Tell(Signal::Enter),
             Read(Params),
             Read(Body(false)),
-            Close,
+            Tell(Signal::Join),
+            Tell(Signal::Close),
+            Tell(Signal::End(NodeKind::Statement)),
         ]),
     }
 }
@@ -62,20 +75,32 @@ pub fn item_row(stack: &mut Stack, context: Context, one: Class, two: Class) -> 
 {
     match one {
         Class::Function => declaration_row(stack, context, two),
-        Class::Let => stack.push(&[Take(Class::Let), Read(Binds(context)), Read(Semi)]),
-        Class::Const => stack.push(&[Take(Class::Const), Read(Binds(context)), Read(Semi)]),
+        Class::Let => stack.push(&[
+            Tell(Signal::Begin(NodeKind::Statement)),
+            Take(Class::Let),
+            Read(Binds(DeclarationWord::Let, context)),
+            Read(Semi),
+            Tell(Signal::End(NodeKind::Statement)),
+        ]),
+        Class::Const => stack.push(&[
+            Tell(Signal::Begin(NodeKind::Statement)),
+            Take(Class::Const),
+            Read(Binds(DeclarationWord::Const, context)),
+            Read(Semi),
+            Tell(Signal::End(NodeKind::Statement)),
+        ]),
         _ => stack.push(&[Read(Statement(context))]),
     }
 }
 
-pub fn bound_row(stack: &mut Stack, look: Look) -> Result<(), Stop>
-    ensures { Pushed (step_of (row.bound_row look)) result stack.old stack.new }
+pub fn bound_row(stack: &mut Stack, role: Role, look: Look) -> Result<(), Stop>
+    ensures { Pushed (step_of (row.bound_row role look)) result stack.old stack.new }
 {
     match look.one {
         Class::LeftBracket | Class::LeftBrace => left_out(OutsideKind::Pattern),
         one => {
             if one.is_name() {
-                stack.push(&[Take(Class::Name)])
+                stack.push(&[Tell(Signal::Declare(role)), Take(Class::Name)])
             } else {
                 stuck(look)
             }
@@ -113,43 +138,89 @@ pub fn block_row(stack: &mut Stack, context: Context) -> Result<(), Stop>
     ensures { Pushed (step_of (row.block_row context)) result stack.old stack.new }
 {
     stack.push(&[
+        Tell(Signal::Begin(NodeKind::Statement)),
+        Tell(Signal::Scope),
         Take(Class::LeftBrace),
         Read(Items(context)),
         Take(Class::RightBrace),
+        Tell(Signal::EndScope),
+        Tell(Signal::End(NodeKind::Statement)),
     ])
 }
 
-pub fn binds_row(stack: &mut Stack, context: Context) -> Result<(), Stop>
-    ensures { Pushed (step_of (row.binds_row context)) result stack.old stack.new }
+pub fn binds_row(stack: &mut Stack, word: DeclarationWord, context: Context) -> Result<(), Stop>
+    ensures { Pushed (step_of (row.binds_row word context)) result stack.old stack.new }
 {
-    stack.push(&[Read(Bind(context)), Read(MoreBinds(context))])
+    stack.push(&[Read(Bind(word, context)), Read(MoreBinds(word, context))])
 }
 
-pub fn bind_row(stack: &mut Stack, context: Context) -> Result<(), Stop>
-    ensures { Pushed (step_of (row.bind_row context)) result stack.old stack.new }
+pub fn bind_row(stack: &mut Stack, word: DeclarationWord, context: Context) -> Result<(), Stop>
+    ensures { Pushed (step_of (row.bind_row word context)) result stack.old stack.new }
 {
-    stack.push(&[Read(Bound), Read(Initial(context))])
+    stack.push(&[
+        Read(Bound(Role::Variable(word))),
+        Read(Initial(word, context)),
+    ])
 }
 
-pub fn initial_row(stack: &mut Stack, context: Context, one: Class) -> Result<(), Stop>
-    ensures { Pushed (step_of (row.initial_row context one)) result stack.old stack.new }
+/// A name without a value.
+fn no_value(stack: &mut Stack, word: DeclarationWord, context: Context) -> Result<(), Stop>
+    ensures { Pushed (step_of (row.no_value word context)) result stack.old stack.new }
+{
+    let _context = context;
+    match word {
+        DeclarationWord::Const => stack.push(&[Tell(Signal::Bare)]),
+        DeclarationWord::Var => Ok(()),
+        DeclarationWord::Let => Ok(()),
+    }
+}
+
+pub fn initial_row(
+    stack: &mut Stack,
+    word: DeclarationWord,
+    context: Context,
+    one: Class,
+) -> Result<(), Stop>
+    ensures { Pushed (step_of (row.initial_row word context one)) result stack.old stack.new }
 {
     match one {
         Class::Assign => stack.push(&[
             Take(Class::Assign),
             Read(Operation(Level::Assignment, context)),
+            Tell(Signal::Join),
         ]),
+        _ => no_value(stack, word, context),
+    }
+}
+
+pub fn more_binds_row(
+    stack: &mut Stack,
+    word: DeclarationWord,
+    context: Context,
+    one: Class,
+) -> Result<(), Stop>
+    ensures { Pushed (step_of (row.more_binds_row word context one))
+        result stack.old stack.new }
+{
+    match one {
+        Class::Comma => stack.push(&[Take(Class::Comma), Read(Binds(word, context))]),
         _ => Ok(()),
     }
 }
 
-pub fn more_binds_row(stack: &mut Stack, context: Context, one: Class) -> Result<(), Stop>
-    ensures { Pushed (step_of (row.more_binds_row context one)) result stack.old stack.new }
+/// A statement that is its word, what that stands before, and a semicolon.
+fn simple_statement(stack: &mut Stack, word: Class, what: Nonterminal) -> Result<(), Stop>
+    ensures { Pushed (pushes (Symbol.Tell (Signal.Begin NodeKind.Statement) ∷ Symbol.Take word
+        ∷ Symbol.Read what ∷ Symbol.Read Nonterminal.Semi
+        ∷ Symbol.Tell (Signal.End NodeKind.Statement) ∷ [])) result stack.old stack.new }
 {
-    match one {
-        Class::Comma => stack.push(&[Take(Class::Comma), Read(Binds(context))]),
-        _ => Ok(()),
-    }
+    stack.push(&[
+        Tell(Signal::Begin(NodeKind::Statement)),
+        Take(word),
+        Read(what),
+        Read(Semi),
+        Tell(Signal::End(NodeKind::Statement)),
+    ])
 }
 
 fn if_statement(stack: &mut Stack, context: Context) -> Result<(), Stop>
@@ -157,12 +228,15 @@ fn if_statement(stack: &mut Stack, context: Context) -> Result<(), Stop>
         Pushed (step_of (row.statement_by context look Class.If)) result stack.old stack.new }
 {
     stack.push(&[
+        Tell(Signal::Begin(NodeKind::Statement)),
         Take(Class::If),
         Take(Class::LeftParen),
         Read(Expr(context)),
+        Tell(Signal::Join),
         Take(Class::RightParen),
         Read(Statement(context)),
         Read(Else(context)),
+        Tell(Signal::End(NodeKind::Statement)),
     ])
 }
 
@@ -171,13 +245,16 @@ fn do_statement(stack: &mut Stack, context: Context) -> Result<(), Stop>
         Pushed (step_of (row.statement_by context look Class.Do)) result stack.old stack.new }
 {
     stack.push(&[
+        Tell(Signal::Begin(NodeKind::Loop)),
         Take(Class::Do),
         Read(Statement(context)),
         Take(Class::While),
         Take(Class::LeftParen),
         Read(Expr(context)),
+        Tell(Signal::Join),
         Take(Class::RightParen),
         Read(LooseSemi),
+        Tell(Signal::End(NodeKind::Loop)),
     ])
 }
 
@@ -186,11 +263,14 @@ fn while_statement(stack: &mut Stack, context: Context) -> Result<(), Stop>
         Pushed (step_of (row.statement_by context look Class.While)) result stack.old stack.new }
 {
     stack.push(&[
+        Tell(Signal::Begin(NodeKind::Loop)),
         Take(Class::While),
         Take(Class::LeftParen),
         Read(Expr(context)),
+        Tell(Signal::Join),
         Take(Class::RightParen),
         Read(Statement(context)),
+        Tell(Signal::End(NodeKind::Loop)),
     ])
 }
 
@@ -199,11 +279,11 @@ fn for_statement(stack: &mut Stack, context: Context) -> Result<(), Stop>
         Pushed (step_of (row.statement_by context look Class.For)) result stack.old stack.new }
 {
     stack.push(&[
+        Tell(Signal::Begin(NodeKind::Loop)),
         Take(Class::For),
         Read(ForOpen),
         Read(Head(context)),
-        Take(Class::RightParen),
-        Read(Statement(context)),
+        Tell(Signal::End(NodeKind::Loop)),
     ])
 }
 
@@ -211,24 +291,57 @@ fn return_statement(stack: &mut Stack, context: Context) -> Result<(), Stop>
     ensures { Pushed (step_of (row.return_row context context.returns)) result stack.old stack.new }
 {
     if context.returns {
-        stack.push(&[Take(Class::Return), Read(ReturnValue(context)), Read(Semi)])
+        simple_statement(stack, Class::Return, ReturnValue(context))
     } else {
         Err(Stop::Refused(BadKind::Syntax))
     }
 }
 
-fn switch_statement(stack: &mut Stack, context: Context) -> Result<(), Stop>
-    ensures { (look : Seen) →
-        Pushed (step_of (row.statement_by context look Class.Switch)) result stack.old stack.new }
+fn switch_row(stack: &mut Stack, context: Context) -> Result<(), Stop>
+    ensures { Pushed (step_of (row.switch_row context)) result stack.old stack.new }
 {
     stack.push(&[
+        Tell(Signal::Begin(NodeKind::Switch)),
         Take(Class::Switch),
         Take(Class::LeftParen),
         Read(Expr(context)),
+        Tell(Signal::Join),
         Take(Class::RightParen),
+        Tell(Signal::ScopeHere(ScopeKind::Block)),
         Take(Class::LeftBrace),
         Read(Clauses(context, false)),
         Take(Class::RightBrace),
+        Tell(Signal::EndScope),
+        Tell(Signal::End(NodeKind::Switch)),
+    ])
+}
+
+fn try_statement(stack: &mut Stack, context: Context) -> Result<(), Stop>
+    ensures { (look : Seen) →
+        Pushed (step_of (row.statement_by context look Class.Try)) result stack.old stack.new }
+{
+    stack.push(&[
+        Tell(Signal::Begin(NodeKind::Statement)),
+        Take(Class::Try),
+        Read(Block(context)),
+        Read(Handlers(context)),
+        Tell(Signal::End(NodeKind::Statement)),
+    ])
+}
+
+fn expression_statement(stack: &mut Stack, context: Context) -> Result<(), Stop>
+    ensures { Pushed (pushes (Symbol.Tell (Signal.Begin NodeKind.Expression)
+        ∷ Symbol.Read (Nonterminal.Expr context) ∷ Symbol.Tell Signal.Directive
+        ∷ Symbol.Tell Signal.Join ∷ Symbol.Read Nonterminal.Semi
+        ∷ Symbol.Tell (Signal.End NodeKind.Statement) ∷ [])) result stack.old stack.new }
+{
+    stack.push(&[
+        Tell(Signal::Begin(NodeKind::Expression)),
+        Read(Expr(context)),
+        Tell(Signal::Directive),
+        Tell(Signal::Join),
+        Read(Semi),
+        Tell(Signal::End(NodeKind::Statement)),
     ])
 }
 
@@ -239,26 +352,44 @@ fn statement_by(stack: &mut Stack, context: Context, look: Look) -> Result<(), S
 {
     match look.one {
         Class::LeftBrace => stack.push(&[Read(Block(context))]),
-        Class::Var => stack.push(&[Take(Class::Var), Read(Binds(context)), Read(Semi)]),
-        Class::Semicolon => stack.push(&[Take(Class::Semicolon)]),
-        Class::Debugger => stack.push(&[Take(Class::Debugger), Read(Semi)]),
+        Class::Var => simple_statement(stack, Class::Var, Binds(DeclarationWord::Var, context)),
+        Class::Semicolon => stack.push(&[
+            Tell(Signal::Begin(NodeKind::Statement)),
+            Take(Class::Semicolon),
+            Tell(Signal::End(NodeKind::Statement)),
+        ]),
+        Class::Debugger => stack.push(&[
+            Tell(Signal::Begin(NodeKind::Statement)),
+            Take(Class::Debugger),
+            Read(Semi),
+            Tell(Signal::End(NodeKind::Statement)),
+        ]),
         Class::If => if_statement(stack, context),
         Class::Do => do_statement(stack, context),
         Class::While => while_statement(stack, context),
         Class::For => for_statement(stack, context),
-        Class::Continue => stack.push(&[Take(Class::Continue), Read(Label), Read(Semi)]),
-        Class::Break => stack.push(&[Take(Class::Break), Read(Label), Read(Semi)]),
+        Class::Continue => simple_statement(stack, Class::Continue, Label(Jump::Continue)),
+        Class::Break => simple_statement(stack, Class::Break, Label(Jump::Break)),
         Class::Return => return_statement(stack, context),
-        Class::Throw => stack.push(&[Take(Class::Throw), Read(ThrowValue(context)), Read(Semi)]),
-        Class::Switch => switch_statement(stack, context),
-        Class::Try => stack.push(&[
-            Take(Class::Try),
-            Read(Block(context)),
-            Read(Handlers(context)),
-        ]),
+        Class::Throw => simple_statement(stack, Class::Throw, ThrowValue(context)),
+        Class::Switch => switch_row(stack, context),
+        Class::Try => try_statement(stack, context),
         Class::Function => Err(Stop::Refused(BadKind::Syntax)),
-        _ => stack.push(&[Read(Expr(context)), Read(Semi)]),
+        _ => expression_statement(stack, context),
     }
+}
+
+fn labelled_row(stack: &mut Stack, context: Context) -> Result<(), Stop>
+    ensures { Pushed (step_of (row.labelled_row context)) result stack.old stack.new }
+{
+    stack.push(&[
+        Tell(Signal::Begin(NodeKind::Label)),
+        Tell(Signal::Label),
+        Take(Class::Name),
+        Take(Class::Colon),
+        Read(Statement(context)),
+        Tell(Signal::End(NodeKind::Label)),
+    ])
 }
 
 pub fn statement_row(stack: &mut Stack, context: Context, look: Look) -> Result<(), Stop>
@@ -267,11 +398,7 @@ pub fn statement_row(stack: &mut Stack, context: Context, look: Look) -> Result<
     if look.is_async() {
         left_out(OutsideKind::Async)
     } else if look.one.is_name() && look.two.is_colon() {
-        stack.push(&[
-            Take(Class::Name),
-            Take(Class::Colon),
-            Read(Statement(context)),
-        ])
+        labelled_row(stack, context)
     } else {
         statement_by(stack, context, look)
     }
@@ -286,13 +413,13 @@ pub fn else_row(stack: &mut Stack, context: Context, one: Class) -> Result<(), S
     }
 }
 
-pub fn label_row(stack: &mut Stack, look: Look) -> Result<(), Stop>
-    ensures { Pushed (step_of (row.label_row look)) result stack.old stack.new }
+pub fn label_row(stack: &mut Stack, jump: Jump, look: Look) -> Result<(), Stop>
+    ensures { Pushed (step_of (row.label_row jump look)) result stack.old stack.new }
 {
     if !look.one_newline && look.one.is_name() {
-        stack.push(&[Take(Class::Name)])
+        stack.push(&[Tell(Signal::JumpTo(jump)), Take(Class::Name)])
     } else {
-        Ok(())
+        stack.push(&[Tell(Signal::Jump(jump))])
     }
 }
 
@@ -305,7 +432,7 @@ pub fn return_value_row(stack: &mut Stack, context: Context, look: Look) -> Resu
     }
     match look.one {
         Class::Semicolon | Class::RightBrace | Class::End => Ok(()),
-        _ => stack.push(&[Read(Expr(context))]),
+        _ => stack.push(&[Read(Expr(context)), Tell(Signal::Join)]),
     }
 }
 
@@ -316,7 +443,7 @@ pub fn throw_value_row(stack: &mut Stack, context: Context, look: Look) -> Resul
     if look.one_newline {
         stuck(look)
     } else {
-        stack.push(&[Read(Expr(context))])
+        stack.push(&[Read(Expr(context)), Tell(Signal::Join)])
     }
 }
 
@@ -333,6 +460,7 @@ pub fn clauses_row(
         Class::Case => stack.push(&[
             Take(Class::Case),
             Read(Expr(context)),
+            Tell(Signal::Join),
             Take(Class::Colon),
             Read(Items(context)),
             Read(Clauses(context, has_default)),
@@ -366,7 +494,17 @@ pub fn handlers_row(stack: &mut Stack, context: Context, look: Look) -> Result<(
 pub fn catch_clause_row(stack: &mut Stack, context: Context) -> Result<(), Stop>
     ensures { Pushed (step_of (row.catch_clause_row context)) result stack.old stack.new }
 {
-    stack.push(&[Take(Class::Catch), Read(CatchName), Read(Block(context))])
+    stack.push(&[
+        Tell(Signal::ScopeHere(ScopeKind::Catch)),
+        Take(Class::Catch),
+        Read(CatchName),
+        Tell(Signal::Begin(NodeKind::Statement)),
+        Take(Class::LeftBrace),
+        Read(Items(context)),
+        Take(Class::RightBrace),
+        Tell(Signal::End(NodeKind::Statement)),
+        Tell(Signal::EndScope),
+    ])
 }
 
 pub fn catch_name_row(stack: &mut Stack, one: Class) -> Result<(), Stop>
@@ -375,7 +513,7 @@ pub fn catch_name_row(stack: &mut Stack, one: Class) -> Result<(), Stop>
     match one {
         Class::LeftParen => stack.push(&[
             Take(Class::LeftParen),
-            Read(Bound),
+            Read(Bound(Role::Caught)),
             Take(Class::RightParen),
         ]),
         _ => Ok(()),

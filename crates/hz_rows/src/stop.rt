@@ -1,8 +1,8 @@
 ghost use Rattle.std.specs.Prelude.{◌≡◌, Err};
 ghost use Rattle.hz_tree.specs.grammar.Look as spec;
 
+use hz_list::Memory;
 use hz_tree::{BadKind, Look, OutsideKind};
-use std::alloc::AllocFailed;
 
 /// Why a nonterminal was not expanded.
 #[derive(Clone, Copy, Debug, PartialEq, Eq)]
@@ -14,13 +14,13 @@ pub enum Stop {
     Refused(BadKind),
 }
 
-impl<T: Drop> From<AllocFailed<T>> for Stop {
+impl From<Memory> for Stop {
     ghost use Rattle.std.specs.Prelude.{◌≡◌};
-    ghost use Rattle.hz_rows.specs.declared.stop.Stop.TheVariants.{Memory};
+    ghost use Rattle.hz_rows.specs.declared.stop.Stop.TheVariants.{Memory as wanting};
 
-    ghost from_gives = { λ _ stop. stop ≡ Memory };
+    ghost from_gives = { λ _ stop. stop ≡ wanting };
 
-    fn from(_failed: AllocFailed<T>) -> Stop {
+    fn from(_memory: Memory) -> Stop {
         Stop::Memory
     }
 }

@@ -21,15 +21,19 @@ pub fn expand(stack: &mut Stack, nonterminal: Nonterminal, look: Look) -> Result
         Nonterminal::Item(context) => statements::item_row(stack, context, look.one, look.two),
         Nonterminal::Statement(context) => statements::statement_row(stack, context, look),
         Nonterminal::Block(context) => statements::block_row(stack, context),
-        Nonterminal::Binds(context) => statements::binds_row(stack, context),
-        Nonterminal::Bind(context) => statements::bind_row(stack, context),
-        Nonterminal::MoreBinds(context) => statements::more_binds_row(stack, context, look.one),
-        Nonterminal::Initial(context) => statements::initial_row(stack, context, look.one),
-        Nonterminal::Bound => statements::bound_row(stack, look),
+        Nonterminal::Binds(word, context) => statements::binds_row(stack, word, context),
+        Nonterminal::Bind(word, context) => statements::bind_row(stack, word, context),
+        Nonterminal::MoreBinds(word, context) => {
+            statements::more_binds_row(stack, word, context, look.one)
+        }
+        Nonterminal::Initial(word, context) => {
+            statements::initial_row(stack, word, context, look.one)
+        }
+        Nonterminal::Bound(role) => statements::bound_row(stack, role, look),
         Nonterminal::Semi => statements::semi_row(stack, look),
         Nonterminal::LooseSemi => statements::loose_semi_row(stack, look.one),
         Nonterminal::Else(context) => statements::else_row(stack, context, look.one),
-        Nonterminal::Label => statements::label_row(stack, look),
+        Nonterminal::Label(jump) => statements::label_row(stack, jump, look),
         Nonterminal::ReturnValue(context) => statements::return_value_row(stack, context, look),
         Nonterminal::ThrowValue(context) => statements::throw_value_row(stack, context, look),
         Nonterminal::Clauses(context, has_default) => statements::clauses_row(
@@ -44,13 +48,20 @@ pub fn expand(stack: &mut Stack, nonterminal: Nonterminal, look: Look) -> Result
         Nonterminal::Finally(context) => statements::finally_row(stack, context, look.one),
         Nonterminal::ForOpen => heads::for_open_row(stack, look.one),
         Nonterminal::Head(context) => heads::head_row(stack, context, look),
-        Nonterminal::DeclaredHead(context) => heads::declared_head_row(stack, context, look.one),
+        Nonterminal::DeclaredHead(word, context) => {
+            heads::declared_head_row(stack, word, context, look.one)
+        }
         Nonterminal::LeftHead(context) => heads::left_head_row(stack, context, look.one),
         Nonterminal::OptionalExpr(context) => heads::optional_expr_row(stack, context, look.one),
         Nonterminal::Expr(context) => expressions::expr_row(stack, context),
-        Nonterminal::ExprRest(context) => expressions::expr_rest_row(stack, context, look.one),
+        Nonterminal::ExprRest(listed, context) => {
+            expressions::expr_rest_row(stack, listed, context, look.one)
+        }
         Nonterminal::Operation(loosest, context) => {
             operators::operation_row(stack, loosest, context, look)
+        }
+        Nonterminal::Tails(tailed, loosest, context) => {
+            operators::tails_row(stack, tailed, loosest, context, look)
         }
         Nonterminal::Rests(loosest, tightest, context) => {
             operators::rests_row(stack, loosest, tightest, context, look)

@@ -3,3 +3,4 @@ pub mod grammar
 pub mod reading
 pub mod trees
 pub mod sources
+pub mod errors

@@ -2,12 +2,13 @@
 pub mod Classes
 pub mod Look
 pub mod Operators
+pub mod Signals
 pub mod Symbols
 pub mod FunctionRows
-pub mod StatementRows
 pub mod OperatorRows
 pub mod ExpressionRows
 pub mod HeadRows
+pub mod StatementRows
 pub mod PrimaryRows
 pub mod PropertyRows
 pub mod Table

@@ -1,3 +1,5 @@
 -- What is said of a whole source.
+pub mod EarlyErrors
+pub mod Least
 pub mod Refusals
 pub mod Shown

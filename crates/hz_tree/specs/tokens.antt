@@ -5,5 +5,6 @@ pub mod Spaces
 pub mod Names
 pub mod Numbers
 pub mod Literals
+pub mod Values
 pub mod Punctuators
 pub mod Tokens

@@ -1,5 +1,6 @@
 use crate::tree::FunctionKind;
-use std::alloc::{AllocError, Global};
+use hz_list::{Memory, Series};
+use std::alloc::Global;
 use std::marker::Model;
 
 /// What is known of a function before it is compiled.
@@ -25,7 +26,7 @@ pub struct FunctionInfo {
 /// A list of functions, in the order of their numbers.
 #[derive(Debug, Drop)]
 pub struct FunctionInfos {
-    items: Vec<FunctionInfo>,
+    items: Series<FunctionInfo>,
 }
 
 impl Model for FunctionInfos {
@@ -34,9 +35,9 @@ impl Model for FunctionInfos {
 
     ghost Value = { List FunctionInfo };
 
-    ghost view = { λ f. f.items.items };
+    ghost view = { λ f. f.items };
 
-    ghost invariant = { λ f. length f.items.items ≤ 4294967295 };
+    ghost invariant = { λ f. length f.items ≤ 4294967295 };
 }
 
 impl FunctionInfos {
@@ -48,7 +49,7 @@ impl FunctionInfos {
         ensures { result ≡ [] }
     {
         FunctionInfos {
-            items: Vec::new(alloc),
+            items: Series::new(alloc),
         }
     }
 
@@ -71,20 +72,19 @@ impl FunctionInfos {
         requires { k < length self.now }
         ensures { slice_get self.now k ≡ Some result.now }
     {
-        &self.items[k as usize]
+        &self.items.as_slice()[k as usize]
     }
 
-    /// Adds a function at the end. Only memory can fail, and the list is then as before. Memory for more than
-    /// 4294967295 functions, more than a hundred GB, is never there.
-    pub fn push(&mut self, info: FunctionInfo) -> Result<(), AllocError>
+    /// Adds a function at the end. After Memory the list is as before. Memory for more than 4294967295 functions,
+    /// more than a hundred GB, is never there.
+    pub fn push(&mut self, info: FunctionInfo) -> Result<(), Memory>
         ensures ok { OnOk result (self.new ≡ self.old ++ info ∷ []) }
         ensures err { OnErr result (self.new ≡ self.old) }
     {
         if self.items.len() >= 4294967295 {
-            return Err(AllocError);
+            return Err(Memory);
         }
-        self.items.push(info)?;
-        Ok(())
+        self.items.push(info)
     }
 
     /// Puts another function in the place of the one with this number.
@@ -92,7 +92,7 @@ impl FunctionInfos {
         requires { k < length self.old }
         ensures { self.new ≡ slice_set self.old k info }
     {
-        self.items[k as usize] = info;
+        self.items.set(k as usize, info);
     }
 }
 

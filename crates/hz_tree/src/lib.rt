@@ -1,27 +1,34 @@
 // The types that the stages of the front end share: tokens, the grammar's symbols, trees, and the reasons for which
 // a source is refused.
 //
-// The layer above relies on the definitions in `specs/`: `specs/tokens/Tokens.antt` says what the tokens of a source are, in
-// the terms of ECMA-262, clause 12, and `specs/grammar/Table.antt` is the grammar as one table, which `specs/reading/Reading.antt`
-// unfolds. They speak of sources in UTF-8, byte by byte.
+// The layer above relies on the definitions in `specs/`, which speak of sources in UTF-8, byte by byte:
+// `specs/tokens/Tokens.antt` says what the tokens of a source are, in the terms of ECMA-262, clause 12, and
+// `specs/grammar/Table.antt` is the grammar as one table, which `specs/reading/Reading.antt` unfolds.
 #![tactic(auto)]
 
 mod class;
+mod early;
 mod front;
 mod index;
+mod limit;
 mod look;
 mod nonterminal;
 mod operator;
 mod operators;
 mod outside;
+mod profile;
 mod refusal;
+mod scope;
+mod signal;
 mod symbol;
 mod token;
 mod tree;
 
 pub use class::{Bracket, Bracketing, Class};
+pub use early::EarlyKind;
 pub use front::{Front, Stretch};
 pub use index::{FunctionInfo, FunctionInfos, Index};
+pub use limit::LimitKind;
 pub use look::Look;
 pub use nonterminal::{Context, Nonterminal};
 pub use operator::{
@@ -29,7 +36,10 @@ pub use operator::{
     UpdateOperator,
 };
 pub use outside::{BadKind, OutsideKind};
+pub use profile::ProfileKind;
 pub use refusal::Refusal;
+pub use scope::{BindingKind, ScopeKind};
+pub use signal::{Jump, NodeKind, NodeShape, Role, Signal};
 pub use symbol::Symbol;
 pub use token::{Token, TokenKind};
-pub use tree::{Bound, FunctionKind, Rest, Slice, Tree};
+pub use tree::{Bound, FunctionForm, FunctionKind, Rest, Slice, Tree};

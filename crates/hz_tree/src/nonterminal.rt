@@ -1,4 +1,5 @@
-use crate::operator::Level;
+use crate::operator::{DeclarationWord, Level};
+use crate::signal::{Jump, Role};
 
 /// The parameters of a rule, ECMA-262's \[Return\], \[Yield\] and \[In\] (5.1.5).
 #[derive(Clone, Copy, Debug, PartialEq, Eq)]
@@ -23,23 +24,24 @@ pub enum Nonterminal {
     Item(Context),
     Statement(Context),
     Block(Context),
-    Binds(Context),
-    Bind(Context),
-    MoreBinds(Context),
+    // The names that a declaration binds.
+    Binds(DeclarationWord, Context),
+    Bind(DeclarationWord, Context),
+    MoreBinds(DeclarationWord, Context),
 
     /// `= value`, or nothing.
-    Initial(Context),
+    Initial(DeclarationWord, Context),
 
     /// A name that is bound.
-    Bound,
+    Bound(Role),
     Semi,
 
     /// The semicolon behind a do-while, which may always be missing.
     LooseSemi,
     Else(Context),
 
-    /// The label of a `break` or `continue`.
-    Label,
+    /// The label of a `break` or `continue`, or none.
+    Label(Jump),
     ReturnValue(Context),
     ThrowValue(Context),
 
@@ -54,10 +56,12 @@ pub enum Nonterminal {
 
     // The head of a `for`.
     ForOpen,
+
+    /// What follows the `(` of a head, with the body.
     Head(Context),
 
     /// What follows `let name` in a head.
-    DeclaredHead(Context),
+    DeclaredHead(DeclarationWord, Context),
 
     /// What follows a left-hand side in a head.
     LeftHead(Context),
@@ -65,10 +69,16 @@ pub enum Nonterminal {
 
     // Expressions.
     Expr(Context),
-    ExprRest(Context),
+
+    /// The expressions behind a comma. The flag tells that one came before.
+    ExprRest(bool, Context),
 
     /// An expression of operators that bind at least as tightly as the level; an arrow and a `yield` are of the loosest.
     Operation(Level, Context),
+
+    /// The members and calls behind an operand, and then the operators from the level on. The flag tells that one of
+    /// the former came before.
+    Tails(bool, Level, Context),
 
     /// The operators behind an operand and what they stand before: those from the first level to the second.
     Rests(Level, Level, Context),

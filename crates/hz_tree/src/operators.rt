@@ -167,6 +167,18 @@ impl BinaryOperator {
     }
 }
 
+impl AssignOperator {
+    ghost use Rattle.std.specs.Prelude.{◌≡◌};
+    ghost use Rattle.hz_tree.specs.grammar.Operators as operators;
+
+    /// Whether a pattern could stand before it.
+    pub fn takes_pattern(self) -> bool
+        ensures { result ≡ operators.takes_pattern self }
+    {
+        matches!(self, AssignOperator::Assign)
+    }
+}
+
 impl UnaryOperator {
     ghost use Rattle.std.specs.Prelude.{◌≡◌};
     ghost use Rattle.hz_tree.specs.grammar.Operators.{left_of_unary};

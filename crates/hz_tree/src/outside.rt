@@ -34,7 +34,7 @@ pub enum OutsideKind {
     /// A numeric literal that ends with `n`.
     BigInt,
 
-    /// A numeric literal with a fraction or an exponent, or above 9007199254740991.
+    /// A numeric literal with a fraction or an exponent, or above `MAX_SAFE` of `hz_list`.
     NumberForm,
 
     /// A template behind an expression.

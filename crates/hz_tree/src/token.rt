@@ -28,7 +28,7 @@ pub enum TokenKind {
     /// A punctuator.
     Punct,
 
-    /// A numeric literal with its value, at most 9007199254740991.
+    /// A numeric literal with its value, at most `MAX_SAFE` of `hz_list`.
     Number(u64),
 
     /// A string literal. `octal` tells of a legacy octal escape, `\8` or `\9` in it.

@@ -23,6 +23,20 @@ pub enum FunctionKind {
     Generator,
 }
 
+/// How a function stands in the source.
+#[derive(Debug, Drop)]
+pub enum FunctionForm<'a> {
+    /// As a declaration of its name.
+    Declaration(Bound<'a>),
+
+    /// As an expression that begins with `function`, with the name behind that.
+    Expression(Option<Bound<'a>>),
+    Arrow,
+
+    /// As a method, a getter or a setter.
+    Method,
+}
+
 /// A slice of the source, which contracts see as its bytes.
 #[derive(Debug, Drop)]
 pub struct Slice<'a> {
@@ -85,16 +99,14 @@ pub enum Tree<'a> {
         items: Items<Tree<'a>>,
     },
 
-    // Functions. A declaration and a property hold a `Function`, or an `Inner` in its place.
+    // Functions, or an `Inner` in the place of each.
     Function {
         at: usize,
 
         /// The place behind its last token.
         end: usize,
+        form: FunctionForm<'a>,
         kind: FunctionKind,
-
-        /// The name behind its `function`.
-        name: Option<Bound<'a>>,
         parameters: Items<Bound<'a>>,
         rest: Option<Rest<'a>>,
 
@@ -106,7 +118,7 @@ pub enum Tree<'a> {
     Inner {
         at: usize,
         number: u32,
-        name: Option<Bound<'a>>,
+        form: FunctionForm<'a>,
     },
     Body {
         at: usize,
@@ -114,11 +126,6 @@ pub enum Tree<'a> {
     },
 
     // Items and statements.
-    Declaration {
-        at: usize,
-        function: Boxed<Tree<'a>>,
-    },
-
     /// `let` or `const`.
     Lexical {
         at: usize,
@@ -133,12 +140,16 @@ pub enum Tree<'a> {
     /// A name of a declaration, and its value.
     Bind {
         at: usize,
+        word: DeclarationWord,
         name: Slice<'a>,
         value: Option<Boxed<Tree<'a>>>,
     },
     Block {
         at: usize,
         items: Items<Tree<'a>>,
+
+        /// The place behind its `}`.
+        end: usize,
     },
     Empty {
         at: usize,
@@ -162,9 +173,48 @@ pub enum Tree<'a> {
         test: Boxed<Tree<'a>>,
         body: Boxed<Tree<'a>>,
     },
-    For {
+
+    /// `for (let name of values) body`.
+    ForDeclared {
         at: usize,
-        head: Boxed<Tree<'a>>,
+        word: DeclarationWord,
+        bound: Bound<'a>,
+        iteration: Iteration,
+        over: Boxed<Tree<'a>>,
+        body: Boxed<Tree<'a>>,
+
+        /// The place behind the last token of a scope: of one with `let` or `const`.
+        end: Option<usize>,
+    },
+
+    /// `for (let name = value; test; update) body`.
+    ForBinds {
+        at: usize,
+        word: DeclarationWord,
+        binds: Items<Tree<'a>>,
+        test: Option<Boxed<Tree<'a>>>,
+        update: Option<Boxed<Tree<'a>>>,
+        body: Boxed<Tree<'a>>,
+
+        /// The place behind the last token of a scope: of one with `let` or `const`.
+        end: Option<usize>,
+    },
+
+    /// `for (target of values) body`.
+    ForLeft {
+        at: usize,
+        target: Boxed<Tree<'a>>,
+        iteration: Iteration,
+        over: Boxed<Tree<'a>>,
+        body: Boxed<Tree<'a>>,
+    },
+
+    /// `for (first; test; update) body`.
+    ForExpr {
+        at: usize,
+        first: Option<Boxed<Tree<'a>>>,
+        test: Option<Boxed<Tree<'a>>>,
+        update: Option<Boxed<Tree<'a>>>,
         body: Boxed<Tree<'a>>,
     },
     Continue {
@@ -186,7 +236,13 @@ pub enum Tree<'a> {
     Switch {
         at: usize,
         value: Boxed<Tree<'a>>,
+
+        /// The place of the `{` before its clauses, where their scope begins.
+        brace: usize,
         clauses: Items<Tree<'a>>,
+
+        /// The place behind its `}`.
+        end: usize,
     },
     Case {
         at: usize,
@@ -206,7 +262,13 @@ pub enum Tree<'a> {
     Catch {
         at: usize,
         bound: Option<Bound<'a>>,
-        block: Boxed<Tree<'a>>,
+
+        /// The place of the `{` of its block.
+        brace: usize,
+        items: Items<Tree<'a>>,
+
+        /// The place behind its `}`.
+        end: usize,
     },
     Label {
         at: usize,
@@ -218,41 +280,6 @@ pub enum Tree<'a> {
     Expression {
         at: usize,
         value: Boxed<Tree<'a>>,
-    },
-
-    // Heads of a `for`.
-    /// `let name of values`.
-    DeclaredHead {
-        at: usize,
-        word: DeclarationWord,
-        bound: Bound<'a>,
-        iteration: Iteration,
-        over: Boxed<Tree<'a>>,
-    },
-
-    /// `let name = value; test; update`.
-    BindsHead {
-        at: usize,
-        word: DeclarationWord,
-        binds: Items<Tree<'a>>,
-        test: Option<Boxed<Tree<'a>>>,
-        update: Option<Boxed<Tree<'a>>>,
-    },
-
-    /// `target of values`.
-    LeftHead {
-        at: usize,
-        target: Boxed<Tree<'a>>,
-        iteration: Iteration,
-        over: Boxed<Tree<'a>>,
-    },
-
-    /// `first; test; update`.
-    ExprHead {
-        at: usize,
-        first: Option<Boxed<Tree<'a>>>,
-        test: Option<Boxed<Tree<'a>>>,
-        update: Option<Boxed<Tree<'a>>>,
     },
 
     // Expressions with operators.

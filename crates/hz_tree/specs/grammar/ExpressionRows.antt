@@ -4,7 +4,9 @@ use Rattle.hz_tree.specs.declared.class.Class.{Class}
 use Rattle.hz_tree.specs.declared.class.Class.TheVariants as k
 use Rattle.hz_tree.specs.declared.nonterminal.Context.{Context}
 use Rattle.hz_tree.specs.declared.nonterminal.Nonterminal.TheVariants as n
-use Rattle.hz_tree.specs.declared.symbol.Symbol.TheVariants.{Take, Read}
+use Rattle.hz_tree.specs.declared.signal.NodeShape.TheVariants as shape
+use Rattle.hz_tree.specs.declared.signal.Signal.TheVariants as tell
+use Rattle.hz_tree.specs.declared.symbol.Symbol.TheVariants.{Take, Read, Tell}
 use Rattle.hz_tree.specs.declared.tree.Tree.{Tree}
 use Rattle.hz_tree.specs.declared.tree.Tree.TheVariants as t
 use Rattle.hz_tree.specs.declared.look.Look.{Look}
@@ -19,12 +21,17 @@ listed first [] = first
 listed first (second ∷ more) = t.Comma (place first) (first ∷ second ∷ more)
 
 abbrev pub expr_row : (c : Context) → Row (n.Expr c)
-expr_row c = goes (Read (assignment c) ∷ Read (n.ExprRest c) ∷ []) (λ (first, (more, _)). listed first more)
+expr_row c = goes (Read (assignment c) ∷ Read (n.ExprRest false c) ∷ []) (λ (first, (more, _)). listed first more)
 
-abbrev pub expr_rest_row : (c : Context) → Class → Row (n.ExprRest c)
-expr_rest_row c k.Comma =
-    goes (Take k.Comma ∷ Read (assignment c) ∷ Read (n.ExprRest c) ∷ []) (λ (_, (first, (more, _))). first ∷ more)
-expr_rest_row c _ = goes [] (λ _. [])
+abbrev pub expr_end : (listed : Bool) → (c : Context) → Row (n.ExprRest listed c)
+expr_end true c = goes (Tell (tell.Node shape.Other) ∷ []) (λ _. [])
+expr_end false c = goes [] (λ _. [])
+
+abbrev pub expr_rest_row : (listed : Bool) → (c : Context) → Class → Row (n.ExprRest listed c)
+expr_rest_row listed c k.Comma =
+    goes (Take k.Comma ∷ Read (assignment c) ∷ Tell tell.Join ∷ Read (n.ExprRest true c) ∷ [])
+    (λ (_, (first, (_, (more, _)))). first ∷ more)
+expr_rest_row listed c _ = expr_end listed c
 
 -- ---- arrows
 
@@ -54,8 +61,9 @@ yield_value_by c false k.Semicolon = goes [] (λ _. (false, None))
 yield_value_by c false k.Colon = goes [] (λ _. (false, None))
 yield_value_by c false k.In = goes [] (λ _. (false, None))
 yield_value_by c false k.End = goes [] (λ _. (false, None))
-yield_value_by c false k.Star = goes (Take k.Star ∷ Read (assignment c) ∷ []) (λ (_, (value, _)). (true, Some value))
-yield_value_by c false _ = goes (Read (assignment c) ∷ []) (λ (value, _). (false, Some value))
+yield_value_by c false k.Star =
+    goes (Take k.Star ∷ Read (assignment c) ∷ Tell tell.Join ∷ []) (λ (_, (value, _)). (true, Some value))
+yield_value_by c false _ = goes (Read (assignment c) ∷ Tell tell.Join ∷ []) (λ (value, _). (false, Some value))
 
 abbrev pub yield_value_row : (c : Context) → Look → Row (n.YieldValue c)
 yield_value_row c l = yield_value_by c l.one_newline l.one

@@ -34,6 +34,11 @@ assign_operator k.OrOrAssign = Some assign.OrOr
 assign_operator k.NullishAssign = Some assign.Nullish
 assign_operator _ = None
 
+-- A pattern could stand before `=` alone.
+abbrev pub takes_pattern : AssignOperator → Bool
+takes_pattern assign.Assign = true
+takes_pattern _ = false
+
 -- between two operands
 abbrev pub binary_operator : Class → Option BinaryOperator
 binary_operator k.Nullish = Some binary.Nullish

@@ -6,6 +6,7 @@ use Rattle.hz_tree.specs.declared.nonterminal.Nonterminal.{Nonterminal}
 use Rattle.hz_tree.specs.declared.nonterminal.Nonterminal.TheVariants as n
 use Rattle.hz_tree.specs.declared.operator.AssignOperator.{AssignOperator}
 use Rattle.hz_tree.specs.declared.operator.BinaryOperator.{BinaryOperator}
+use Rattle.hz_tree.specs.declared.operator.DeclarationWord.{DeclarationWord}
 use Rattle.hz_tree.specs.declared.operator.Level.TheVariants as level
 use Rattle.hz_tree.specs.declared.operator.UpdateOperator.{UpdateOperator}
 use Rattle.hz_tree.specs.declared.operator.Iteration.{Iteration}
@@ -16,16 +17,15 @@ use Rattle.hz_tree.specs.declared.tree.Rest.{Rest}
 use Rattle.hz_tree.specs.declared.tree.Tree.{Tree}
 use Rattle.hz_tree.specs.tokens.Text.{Text}
 use Rattle.hz_tree.specs.grammar.Look.{Terminal}
+use Rattle.hz_tree.specs.grammar.Signals.{Told}
 
 -- ---- rows, whatever the nonterminals give
 
--- What a symbol gives: a token, what a nonterminal gives, the place of the next token, or the end of the last one.
+-- what a symbol gives: a token, what a nonterminal gives, or what is told
 abbrev pub Part : (Value : Nonterminal → Type 0) → Symbol → Type 0
 Part Value (s.Take wanted) = Terminal
 Part Value (s.Read nonterminal) = Value nonterminal
-Part Value (s.Open kind) = ℕ
-Part Value s.Count = Unit {0}
-Part Value s.Close = ℕ
+Part Value (s.Tell signal) = Told
 
 abbrev pub Parts : (Value : Nonterminal → Type 0) → List Symbol → Type 0
 Parts Value [] = Unit {0}
@@ -48,18 +48,28 @@ pub data AfterName : Type 0 where
   goes_over : Iteration → Tree → AfterName
   initialised : (value : Option Tree) → (more : List Tree) → (test update : Option Tree) → AfterName
 
--- what stands behind an operand
+-- an operator behind an operand, with its other operands
 pub data Behind : Type 0 where
-  tail : Tree → Behind  -- a member or a call
   updates : UpdateOperator → Behind
   joins : BinaryOperator → Tree → Behind
   chooses : (first second : Tree) → Behind
   assigns : AssignOperator → Tree → Behind
 
+-- what stands behind the beginning of an operation
+pub record AfterHead : Type 0 where
+  pub tails : List Tree  -- members and calls
+  pub operators : List Behind
+
 -- what follows a left-hand side in the head of a `for`
 pub data AfterLeft : Type 0 where
   target_of : Iteration → Tree → AfterLeft
   expression_of : List Behind → (more : List Tree) → (test update : Option Tree) → AfterLeft
+
+-- what follows the `(` of a `for`; `end` is that of its scope
+pub data AfterFor : Type 0 where
+  declares : DeclarationWord → Bound → AfterName → (body : Tree) → (end : Option ℕ) → AfterFor
+  begins_left : (left : Tree) → AfterLeft → (body : Tree) → AfterFor
+  begins_expr : (first test update : Option Tree) → (body : Tree) → AfterFor
 
 abbrev pub Value : Nonterminal → Type 0
 Value n.Script = Tree
@@ -67,15 +77,15 @@ Value (n.Items c) = List Tree
 Value (n.Item c) = Tree
 Value (n.Statement c) = Tree
 Value (n.Block c) = Tree
-Value (n.Binds c) = List Tree
-Value (n.Bind c) = Tree
-Value (n.MoreBinds c) = List Tree
-Value (n.Initial c) = Option Tree
-Value n.Bound = Bound
+Value (n.Binds word c) = List Tree
+Value (n.Bind word c) = Tree
+Value (n.MoreBinds word c) = List Tree
+Value (n.Initial word c) = Option Tree
+Value (n.Bound role) = Bound
 Value n.Semi = Unit {0}
 Value n.LooseSemi = Unit {0}
 Value (n.Else c) = Option Tree
-Value n.Label = Option Bound
+Value (n.Label jump) = Option Bound
 Value (n.ReturnValue c) = Option Tree
 Value (n.ThrowValue c) = Tree
 Value (n.Clauses c has_default) = List Tree
@@ -84,13 +94,14 @@ Value (n.CatchClause c) = Tree
 Value n.CatchName = Option Bound
 Value (n.Finally c) = Option Tree
 Value n.ForOpen = Unit {0}
-Value (n.Head c) = Tree
-Value (n.DeclaredHead c) = AfterName
+Value (n.Head c) = AfterFor
+Value (n.DeclaredHead word c) = AfterName
 Value (n.LeftHead c) = AfterLeft
 Value (n.OptionalExpr c) = Option Tree
 Value (n.Expr c) = Tree
-Value (n.ExprRest c) = List Tree
+Value (n.ExprRest listed c) = List Tree
 Value (n.Operation loosest c) = Tree
+Value (n.Tails tailed loosest c) = AfterHead
 Value (n.Rests loosest tightest c) = List Behind
 Value n.ArrowSign = Unit {0}
 Value (n.ArrowBody c) = Tree

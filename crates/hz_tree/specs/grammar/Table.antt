@@ -1,6 +1,6 @@
--- The grammar: one row for a nonterminal and the tokens in hand. It is the language of ECMA-262's strict
--- scripts without
--- the parts that `OutsideKind` lists; those are refused by name where they begin. The rows are in the files below.
+-- The grammar: one row for a nonterminal and the tokens in hand. It is the language of ECMA-262's strict scripts
+-- without the parts that `OutsideKind` lists; those are refused by name where they begin. The rows are in the files
+-- below.
 use Rattle.std.specs.Prelude.{List}
 use Rattle.hz_tree.specs.declared.outside.BadKind.{BadKind}
 use Rattle.hz_tree.specs.declared.nonterminal.Nonterminal.{Nonterminal}
@@ -13,7 +13,7 @@ use Rattle.hz_tree.specs.grammar.ExpressionRows.{yield_value_row}
 use Rattle.hz_tree.specs.grammar.HeadRows.{for_open_row, head_row, declared_head_row, left_head_row, optional_expr_row}
 use Rattle.hz_tree.specs.grammar.FunctionRows.{own_name_row, params_row, parameters_row, more_parameters_row}
 use Rattle.hz_tree.specs.grammar.FunctionRows.{parameter_end_row, body_row}
-use Rattle.hz_tree.specs.grammar.OperatorRows.{operation_row, rests_row}
+use Rattle.hz_tree.specs.grammar.OperatorRows.{operation_row, tails_row, rests_row}
 use Rattle.hz_tree.specs.grammar.PrimaryRows.{optional_tail_row, word_row, members_row, new_args_row, args_row}
 use Rattle.hz_tree.specs.grammar.PrimaryRows.{arguments_row, more_arguments_row, argument_row, primary_row}
 use Rattle.hz_tree.specs.grammar.PrimaryRows.{template_rest_row, elements_row, more_elements_row}
@@ -31,15 +31,15 @@ row (n.Items c) l = items_row c l.one
 row (n.Item c) l = item_row c l.one l.two
 row (n.Statement c) l = statement_row c l
 row (n.Block c) l = block_row c
-row (n.Binds c) l = binds_row c
-row (n.Bind c) l = bind_row c
-row (n.MoreBinds c) l = more_binds_row c l.one
-row (n.Initial c) l = initial_row c l.one
-row n.Bound l = bound_row l
+row (n.Binds word c) l = binds_row word c
+row (n.Bind word c) l = bind_row word c
+row (n.MoreBinds word c) l = more_binds_row word c l.one
+row (n.Initial word c) l = initial_row word c l.one
+row (n.Bound role) l = bound_row role l
 row n.Semi l = semi_row l
 row n.LooseSemi l = loose_semi_row l.one
 row (n.Else c) l = else_row c l.one
-row n.Label l = label_row l
+row (n.Label jump) l = label_row jump l
 row (n.ReturnValue c) l = return_value_row c l
 row (n.ThrowValue c) l = throw_value_row c l
 row (n.Clauses c has_default) l = clauses_row c has_default l.one
@@ -49,12 +49,13 @@ row n.CatchName l = catch_name_row l.one
 row (n.Finally c) l = finally_row c l.one
 row n.ForOpen l = for_open_row l.one
 row (n.Head c) l = head_row c l
-row (n.DeclaredHead c) l = declared_head_row c l.one
+row (n.DeclaredHead word c) l = declared_head_row word c l.one
 row (n.LeftHead c) l = left_head_row c l.one
 row (n.OptionalExpr c) l = optional_expr_row c l.one
 row (n.Expr c) l = expr_row c
-row (n.ExprRest c) l = expr_rest_row c l.one
+row (n.ExprRest listed c) l = expr_rest_row listed c l.one
 row (n.Operation loosest c) l = operation_row loosest c l
+row (n.Tails tailed loosest c) l = tails_row tailed loosest c l
 row (n.Rests loosest tightest c) l = rests_row loosest tightest c l
 row n.ArrowSign l = arrow_sign_row l
 row (n.ArrowBody c) l = arrow_body_row c l.one

@@ -1,18 +1,21 @@
 -- What the grammar makes of tokens. A reading never goes back: the table has one row for a nonterminal and the next
 -- two tokens.
-use Rattle.std.specs.Prelude.{ℕ, zero, suc, ◌+◌, ◌*◌, if◌then◌else◌, List, [], ◌∷◌, ◌++◌, length}
+use Rattle.std.specs.Prelude.{ℕ, zero, suc, ◌+◌, ◌*◌, Bool, false, if◌then◌else◌, List, [], ◌∷◌, ◌++◌, length}
 use Rattle.hz_tree.specs.declared.class.Class.{Class}
 use Rattle.hz_tree.specs.declared.outside.BadKind.{BadKind}
 use Rattle.hz_tree.specs.declared.outside.BadKind.TheVariants as bad
 use Rattle.hz_tree.specs.declared.nonterminal.Nonterminal.{Nonterminal}
 use Rattle.hz_tree.specs.declared.symbol.Symbol.{Symbol}
 use Rattle.hz_tree.specs.declared.symbol.Symbol.TheVariants as s
-use Rattle.hz_tree.specs.declared.tree.FunctionKind.{FunctionKind}
 use Rattle.hz_tree.specs.declared.look.Look.{Look}
 use Rattle.hz_tree.specs.grammar.Classes.{fits}
 use Rattle.hz_tree.specs.grammar.Look.{Terminal, look, stuck}
+use Rattle.hz_tree.specs.grammar.Signals.{Told, Event, event}
+use Rattle.hz_tree.specs.declared.token.TokenKind.{TokenKind}
+use Rattle.hz_tree.specs.declared.token.TokenKind.TheVariants as kind
 use Rattle.hz_tree.specs.grammar.Symbols.{Part, Parts, RowOf, goes, refuses, Value}
 use Rattle.hz_tree.specs.grammar.Table.{row}
+use Rattle.hz_tree.specs.tokens.Text.{Text}
 
 -- ---- readings
 
@@ -41,6 +44,23 @@ abbrev pub end_behind : List Terminal → ℕ
 end_behind [] = 0
 end_behind (x ∷ ts) = x.behind
 
+abbrev pub text_ahead : List Terminal → Text
+text_ahead [] = []
+text_ahead (x ∷ ts) = x.token.text
+
+abbrev pub has_octal : TokenKind → Bool
+has_octal (kind.Text octal) = octal
+has_octal _ = false
+
+-- the next token is a string literal with a legacy octal escape
+abbrev pub octal_ahead : List Terminal → Bool
+octal_ahead [] = false
+octal_ahead (x ∷ ts) = has_octal x.token.kind
+
+abbrev pub told_ahead : List Terminal → Told
+told_ahead ts =
+    record { at = place_ahead ts; text = text_ahead ts; octal = octal_ahead ts; behind = end_behind ts }
+
 -- ---- the table unfolded
 
 -- what a reader of nonterminals makes of a symbol, of a list of symbols, and of a row
@@ -51,9 +71,7 @@ abbrev pub read_one : {Value : Nonterminal → Type 0} → Reader Value → (sym
     Reading (Part Value symbol)
 read_one reads (s.Take wanted) ts = takes wanted ts
 read_one reads (s.Read nonterminal) ts = reads nonterminal ts
-read_one reads (s.Open kind) ts = Got (place_ahead ts) ts
-read_one reads s.Count ts = Got tt ts
-read_one reads s.Close ts = Got (end_behind ts) ts
+read_one reads (s.Tell signal) ts = Got (told_ahead ts) ts
 
 abbrev pub read_all : {Value : Nonterminal → Type 0} → Reader Value → (right : List Symbol) → List Terminal →
     Reading (Parts Value right)
@@ -85,12 +103,7 @@ reads_by table nonterminal ts = reads_to table (enough ts) nonterminal ts
 abbrev pub reads : Reader Value
 reads = reads_by row
 
--- ---- events: what a reading tells of functions, in the order of the tokens
-
-pub data Event : Type 0 where
-  Opened : FunctionKind → (at : ℕ) → Event
-  Counted : Event
-  Closed : (end : ℕ) → Event
+-- ---- events: what a reading tells, in the order of the tokens
 
 abbrev pub Events : Nonterminal → Type 0
 Events nonterminal = List Event
@@ -99,9 +112,7 @@ abbrev pub told : (right : List Symbol) → Parts Events right → List Event
 told [] parts = []
 told (s.Take wanted ∷ more) parts = told more parts.1
 told (s.Read nonterminal ∷ more) parts = parts.0 ++ told more parts.1
-told (s.Open kind ∷ more) parts = Opened kind parts.0 ∷ told more parts.1
-told (s.Count ∷ more) parts = Counted ∷ told more parts.1
-told (s.Close ∷ more) parts = Closed parts.0 ∷ told more parts.1
+told (s.Tell signal ∷ more) parts = event signal parts.0 ∷ told more parts.1
 
 abbrev pub telling : {Value : Nonterminal → Type 0} {nonterminal : Nonterminal} → RowOf Value nonterminal →
     RowOf Events nonterminal

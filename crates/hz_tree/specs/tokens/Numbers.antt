@@ -1,7 +1,8 @@
--- Numeric literals (ECMA-262, 12.9.3), as far as they stand for integers up to 9007199254740991.
+-- Numeric literals (ECMA-262, 12.9.3), as far as they stand for safe integers.
 use Rattle.std.specs.Prelude.{ℕ, ◌+◌, ◌*◌, ◌&&◌, ◌||◌, if◌then◌else◌, ◌==◌, nat_lt, [], ◌∷◌, take, drop, slice_index}
 use Rattle.std.specs.Char.{is_ascii_digit, digit_value, is_digit}
 use Rattle.std.specs.List.{prefix_len}
+use Rattle.hz_list.specs.declared.limits.TheConstants.{MAX_SAFE}
 use Rattle.hz_tree.specs.declared.front.Front.{Front}
 use Rattle.hz_tree.specs.declared.front.Stretch.{Stretch}
 use Rattle.hz_tree.specs.declared.outside.BadKind.{BadKind}
@@ -50,9 +51,9 @@ literal kind len z =
     else (if is_ascii_digit (slice_index z len) || starts_name (code_point (drop len z)) then bad Syntax
     else record { kind = kind; len = len })
 
--- A literal with a value, which is at most 9007199254740991.
+-- A literal with a value, which is safe.
 unfoldable pub valued : ℕ → ℕ → Text → Front
-valued value len z = if nat_lt 9007199254740991 value then bad (Outside NumberForm) else literal (Number value) len z
+valued value len z = if nat_lt MAX_SAFE value then bad (Outside NumberForm) else literal (Number value) len z
 
 -- Digits behind `0x`, `0o` or `0b` (NonDecimalIntegerLiteral).
 unfoldable pub non_decimal : Text → Front
@@ -66,7 +67,7 @@ unfoldable pub decimal : ℕ → Text → Front
 decimal len z =
     let value = value_of 10 (take len z) in
     let next = slice_index z len in
-    if nat_lt 9007199254740991 value || next == 46 || next == 101 || next == 69
+    if nat_lt MAX_SAFE value || next == 46 || next == 101 || next == 69
     then bad (Outside NumberForm) else literal (Number value) len z
 
 -- The literal at the front of a text that begins with a digit. A decimal one begins with `0` (48) only where

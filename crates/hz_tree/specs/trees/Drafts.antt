@@ -1,9 +1,12 @@
 -- The list of functions as it is built from the events of a source.
 use Rattle.std.specs.Prelude.{ℕ, zero, suc, ◌+◌, min, List, [], ◌∷◌, ◌++◌, length, drop, Option, Some, None}
 use Rattle.hz_tree.specs.declared.index.FunctionInfo.{FunctionInfo}
+use Rattle.hz_tree.specs.declared.signal.Role.TheVariants as role
+use Rattle.hz_tree.specs.declared.signal.Signal.TheVariants as tell
+use Rattle.hz_tree.specs.declared.tree.FunctionKind.{FunctionKind}
 use Rattle.hz_tree.specs.declared.tree.FunctionKind.TheVariants as kind
 use Rattle.hz_tree.specs.tokens.Text.{Text}
-use Rattle.hz_tree.specs.reading.Reading.{Event, Opened, Counted, Closed}
+use Rattle.hz_tree.specs.grammar.Signals.{Event, Placed, Named}
 
 pub record Draft : Type 0 where
   pub functions : List FunctionInfo
@@ -28,14 +31,25 @@ counted x = record x { length = min (x.length + 1) 255 }
 abbrev pub ended : ℕ → FunctionInfo → FunctionInfo
 ended end x = record x { end = end }
 
--- until a function ends, its end is given as its start
-abbrev pub happens : Draft → Event → Draft
-happens d (Opened kind at) =
+-- A function begins. Until it ends, its end is given as its start.
+abbrev pub opens : FunctionKind → (at : ℕ) → Draft → Draft
+opens kind at d =
     let new : FunctionInfo = record { start = at; end = at; kind = kind; length = 0; parent = innermost d.opened } in
     record { functions = d.functions ++ new ∷ []; opened = length d.functions ∷ d.opened }
-happens d Counted = record { functions = change_innermost d.opened counted d.functions; opened = d.opened }
-happens d (Closed end) =
-    record { functions = change_innermost d.opened (ended end) d.functions; opened = drop 1 d.opened }
+
+-- the innermost function has one more parameter
+abbrev pub counts : Draft → Draft
+counts d = record { functions = change_innermost d.opened counted d.functions; opened = d.opened }
+
+-- the innermost function ends
+abbrev pub closes : (end : ℕ) → Draft → Draft
+closes end d = record { functions = change_innermost d.opened (ended end) d.functions; opened = drop 1 d.opened }
+
+abbrev pub happens : Draft → Event → Draft
+happens d (Placed (tell.Open node kind) at) = opens kind at d
+happens d (Named (tell.Declare role.Parameter) at name) = counts d
+happens d (Placed tell.Close end) = closes end d
+happens d _ = d
 
 abbrev pub built : Draft → List Event → Draft
 built d [] = d

@@ -30,7 +30,7 @@ in_function start end kind parameters body parent next =
     (suc next)
 
 abbrev pub in_layer : Tree-F Found → Found
-in_layer (Tree-F.Function at end kind name parameters rest body) = in_function at end kind (length parameters) body
+in_layer (Tree-F.Function at end form kind parameters rest body) = in_function at end kind (length parameters) body
 in_layer layer = in_all (node layer).children
 
 unfoldable pub found_in : Tree → Found

@@ -13,38 +13,36 @@ optional (Some child) = child ∷ []
 
 abbrev pub node : {A : Type 0} → Tree-F A → Node A
 node (Tree-F.Script at items) = record { at = at; children = items }
-node (Tree-F.Function at end kind name parameters rest body) = record { at = at; children = body ∷ [] }
-node (Tree-F.Inner at number name) = record { at = at; children = [] }
+node (Tree-F.Function at end form kind parameters rest body) = record { at = at; children = body ∷ [] }
+node (Tree-F.Inner at number form) = record { at = at; children = [] }
 node (Tree-F.Body at items) = record { at = at; children = items }
-node (Tree-F.Declaration at function) = record { at = at; children = function ∷ [] }
 node (Tree-F.Lexical at word binds) = record { at = at; children = binds }
 node (Tree-F.Var at binds) = record { at = at; children = binds }
-node (Tree-F.Bind at name value) = record { at = at; children = optional value }
-node (Tree-F.Block at items) = record { at = at; children = items }
+node (Tree-F.Bind at word name value) = record { at = at; children = optional value }
+node (Tree-F.Block at items end) = record { at = at; children = items }
 node (Tree-F.Empty at) = record { at = at; children = [] }
 node (Tree-F.Debugger at) = record { at = at; children = [] }
 node (Tree-F.If at test body other) = record { at = at; children = test ∷ body ∷ optional other }
 node (Tree-F.DoWhile at body test) = record { at = at; children = body ∷ test ∷ [] }
 node (Tree-F.While at test body) = record { at = at; children = test ∷ body ∷ [] }
-node (Tree-F.For at head body) = record { at = at; children = head ∷ body ∷ [] }
+node (Tree-F.ForDeclared at word bound iteration over body end) = record { at = at; children = over ∷ body ∷ [] }
+node (Tree-F.ForBinds at word binds test update body end) =
+    record { at = at; children = binds ++ (optional test ++ (optional update ++ body ∷ [])) }
+node (Tree-F.ForLeft at target iteration over body) = record { at = at; children = target ∷ over ∷ body ∷ [] }
+node (Tree-F.ForExpr at first test update body) =
+    record { at = at; children = optional first ++ (optional test ++ (optional update ++ body ∷ [])) }
 node (Tree-F.Continue at label) = record { at = at; children = [] }
 node (Tree-F.Break at label) = record { at = at; children = [] }
 node (Tree-F.Return at value) = record { at = at; children = optional value }
 node (Tree-F.Throw at value) = record { at = at; children = value ∷ [] }
-node (Tree-F.Switch at value clauses) = record { at = at; children = value ∷ clauses }
+node (Tree-F.Switch at value brace clauses end) = record { at = at; children = value ∷ clauses }
 node (Tree-F.Case at value items) = record { at = at; children = value ∷ items }
 node (Tree-F.Default at items) = record { at = at; children = items }
 node (Tree-F.Try at block handler finally) =
     record { at = at; children = block ∷ (optional handler ++ optional finally) }
-node (Tree-F.Catch at bound block) = record { at = at; children = block ∷ [] }
+node (Tree-F.Catch at bound brace items end) = record { at = at; children = items }
 node (Tree-F.Label at name body) = record { at = at; children = body ∷ [] }
 node (Tree-F.Expression at value) = record { at = at; children = value ∷ [] }
-node (Tree-F.DeclaredHead at word bound iteration over) = record { at = at; children = over ∷ [] }
-node (Tree-F.BindsHead at word binds test update) =
-    record { at = at; children = binds ++ (optional test ++ optional update) }
-node (Tree-F.LeftHead at target iteration over) = record { at = at; children = target ∷ over ∷ [] }
-node (Tree-F.ExprHead at first test update) =
-    record { at = at; children = optional first ++ (optional test ++ optional update) }
 node (Tree-F.Comma at values) = record { at = at; children = values }
 node (Tree-F.Assign at target operator value) = record { at = at; children = target ∷ value ∷ [] }
 node (Tree-F.Yield at delegates value) = record { at = at; children = optional value }
@@ -85,3 +83,13 @@ node (Tree-F.ComputedKey at key) = record { at = at; children = key ∷ [] }
 
 abbrev pub place : Tree → ℕ
 place tree = (node (out-Tree tree)).at
+
+-- the place of a tree's first token, from those of the trees in it
+abbrev pub start : {A : Type 0} → (A → ℕ) → Tree-F A → ℕ
+start at (Tree-F.Comma place (first ∷ more)) = at first
+start at (Tree-F.Assign place target operator value) = at target
+start at (Tree-F.Cond place test first second) = at test
+start at (Tree-F.Binary place left operator right) = at left
+start at (Tree-F.Postfix place operand operator) = at operand
+start at (Tree-F.Left place head tails) = at head
+start at layer = (node layer).at

@@ -13,5 +13,5 @@ returns-in-While c = let h = c.while_statement.ensures c.args.look in search rul
 pub returns-in-For : goal.returns-in-For
 returns-in-For c = let h = c.for_statement.ensures c.args.look in search rules
 
-pub returns-in-Switch : goal.returns-in-Switch
-returns-in-Switch c = let h = c.switch_statement.ensures c.args.look in search rules
+pub returns-in-Try : goal.returns-in-Try
+returns-in-Try c = let h = c.try_statement.ensures c.args.look in search rules

@@ -88,6 +88,9 @@ returns-in-ExprRest c = pushed_at _ _ _ _ _ _ c.in-ExprRest.is c.expr_rest_row.e
 pub returns-in-Operation : goal.returns-in-Operation
 returns-in-Operation c = pushed_at _ _ _ _ _ _ c.in-Operation.is c.operation_row.ensures
 
+pub returns-in-Tails : goal.returns-in-Tails
+returns-in-Tails c = pushed_at _ _ _ _ _ _ c.in-Tails.is c.tails_row.ensures
+
 pub returns-in-Rests : goal.returns-in-Rests
 returns-in-Rests c = pushed_at _ _ _ _ _ _ c.in-Rests.is c.rests_row.ensures
 
