@@ -1,0 +1,4 @@
+pub mod LeastLemmas
+pub mod NamesLemmas
+pub mod StackLemmas
+pub mod KnownLemmas
