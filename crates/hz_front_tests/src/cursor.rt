@@ -1,6 +1,6 @@
 use hz_cursor::Cursor;
 use hz_preparse::MAX_LENGTH;
-use hz_scan::{Scanner, class_of};
+use hz_scan::{Scanner, Seen, class_of, look_at};
 use hz_tree::{BadKind, Class, OutsideKind};
 use std::alloc::Global;
 use std::test::Fail;
@@ -84,6 +84,26 @@ fn looks_and_takes(rt: HostRuntime) -> Result<(), Fail> {
     assert!(rt; !cursor.eat(Class::End));
     assert_eq!(rt; (cursor.place(), cursor.behind()), (0, 0));
     Ok(())
+}
+
+#[test]
+fn looks_at_two_tokens(rt: HostRuntime) {
+    let word = Seen {
+        class: Class::Async,
+        newline: true,
+    };
+    let paren = Seen {
+        class: Class::LeftParen,
+        newline: false,
+    };
+    let look = look_at(Some(word), Some(paren), true);
+    assert!(rt; look.one_newline);
+    assert!(rt; look.is_async());
+    let look = look_at(Some(word), None, true);
+    assert_eq!(rt;
+        (look.two, look.two_newline, look.arrow),
+        (Class::End, false, false)
+    );
 }
 
 #[test]

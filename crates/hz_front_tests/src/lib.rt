@@ -5,6 +5,8 @@
 #[cfg(test)]
 mod cursor;
 #[cfg(test)]
+mod early;
+#[cfg(test)]
 mod rows;
 #[cfg(test)]
 mod scan;

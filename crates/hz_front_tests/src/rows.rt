@@ -1,9 +1,12 @@
 //! Rows of the operators.
 
 use hz_rows::{Stack, Stop, expand};
-use hz_tree::Nonterminal::{Bound, Operation, Primary, Rests, Semi};
-use hz_tree::Symbol::{Read, Take};
-use hz_tree::{BadKind, Class, Context, Level, Look, Nonterminal, OutsideKind, Symbol};
+use hz_tree::Nonterminal::{Bound, Operation, Primary, Rests, Semi, Tails, Word};
+use hz_tree::Symbol::{Read, Take, Tell};
+use hz_tree::{
+    BadKind, Class, Context, Level, Look, NodeKind, NodeShape, Nonterminal, OutsideKind, Role,
+    Signal, Symbol, UnaryOperator,
+};
 use std::process::Abort;
 
 const IN_HEAD: Context = Context {
@@ -82,15 +85,17 @@ fn check_operator(
 ) {
     check_row(
         rt,
-        Rests(Level::Assignment, Level::Member, IN_GENERATOR),
+        Rests(Level::Assignment, Level::Update, IN_GENERATOR),
         one,
         &[
             Take(one),
             Read(Operation(right, IN_GENERATOR)),
+            Tell(Signal::Join),
+            Tell(Signal::Node(NodeShape::Other)),
             Read(Rests(Level::Assignment, left, IN_GENERATOR)),
         ],
     );
-    check_row(rt, Rests(tighter, Level::Member, IN_GENERATOR), one, &[]);
+    check_row(rt, Rests(tighter, Level::Update, IN_GENERATOR), one, &[]);
 }
 
 #[test]
@@ -124,26 +129,62 @@ fn rows_of_operators(rt: HostRuntime) {
     }
     check_row(
         &rt,
-        Rests(Level::Assignment, Level::Member, IN_HEAD),
+        Rests(Level::Assignment, Level::Update, IN_HEAD),
         Class::In,
         &[],
     );
-    for (one, left) in [
-        (Class::Delete, Level::Product),
-        (Class::Minus, Level::Product),
-        (Class::PlusPlus, Level::Power),
+    for (one, operator, left) in [
+        (Class::Delete, UnaryOperator::Delete, Level::Product),
+        (Class::Minus, UnaryOperator::Minus, Level::Product),
+        (Class::PlusPlus, UnaryOperator::Increment, Level::Power),
     ] {
         check_row(
             &rt,
             Operation(Level::Sum, IN_HEAD),
             one,
             &[
+                Tell(Signal::Begin(NodeKind::Operand)),
                 Take(one),
                 Read(Operation(Level::Update, IN_HEAD)),
+                Tell(Signal::Unary(operator)),
+                Tell(Signal::Join),
+                Tell(Signal::Node(NodeShape::Other)),
                 Read(Rests(Level::Sum, left, IN_HEAD)),
             ],
         );
     }
+}
+
+#[test]
+fn rows_of_members(rt: HostRuntime) {
+    for tailed in [false, true] {
+        check_row(
+            &rt,
+            Tails(tailed, Level::Sum, IN_HEAD),
+            Class::Dot,
+            &[
+                Take(Class::Dot),
+                Read(Word),
+                Tell(Signal::Member),
+                Read(Tails(true, Level::Sum, IN_HEAD)),
+            ],
+        );
+    }
+    check_row(
+        &rt,
+        Tails(false, Level::Sum, IN_HEAD),
+        Class::Semicolon,
+        &[],
+    );
+    check_row(
+        &rt,
+        Tails(true, Level::Sum, IN_HEAD),
+        Class::Semicolon,
+        &[
+            Tell(Signal::Node(NodeShape::Same)),
+            Read(Rests(Level::Sum, Level::Update, IN_HEAD)),
+        ],
+    );
 }
 
 #[test]
@@ -155,7 +196,7 @@ fn a_row_stands_above_what_follows_it(rt: HostRuntime) {
     assert_eq!(rt; expand(&mut stack, operand, look(Class::Name)), Ok(()));
     for symbol in [
         Read(Primary(IN_HEAD)),
-        Read(Rests(Level::Sum, Level::Member, IN_HEAD)),
+        Read(Tails(false, Level::Sum, IN_HEAD)),
         Read(Semi),
     ] {
         assert_eq!(rt; stack.pop(), Some(symbol));
@@ -168,7 +209,7 @@ fn a_refusal_leaves_the_stack(rt: HostRuntime) {
     let mut stack = Stack::new(rt.alloc());
     let pattern = Stop::Refused(BadKind::Outside(OutsideKind::Pattern));
     assert_eq!(rt;
-        expand(&mut stack, Bound, look(Class::LeftBrace)),
+        expand(&mut stack, Bound(Role::Parameter), look(Class::LeftBrace)),
         Err(pattern)
     );
     assert_eq!(rt;
