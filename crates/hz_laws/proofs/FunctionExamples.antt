@@ -1,25 +1,12 @@
--- The functions of short sources, and whether they say that they are strict code, computed.
-use Rattle.std.proofs.Common.{◌≡◌, ℕ, List, [], ◌∷◌, map, codes, false, Some, None, refl}
+-- The functions of short sources, computed.
+use Rattle.std.proofs.Common.{◌≡◌, ℕ, List, [], ◌∷◌, map, codes, refl}
 use Rattle.hz_tree.specs.declared.nonterminal.Nonterminal.TheVariants as n
-use Rattle.hz_tree.specs.declared.refusal.Refusal.TheVariants.{Syntax, Sloppy}
 use Rattle.hz_tree.proofs.Scanning.{scanning}
 use Rattle.hz_tree.specs.grammar.Classes.{class_by, same_class, same_bracket}
 use Rattle.hz_tree.specs.grammar.Look.{terminals}
 use Rattle.hz_tree.specs.grammar.Signals.{Event}
 use Rattle.hz_tree.specs.reading.Reading.{Reading, Got, reads, tells, reads_to, reads_by}
 use Rattle.hz_tree.specs.trees.Drafts.{built, begun}
-use Rattle.hz_tree.specs.sources.Refusals.{refusal_by}
-
-sloppy :
-    map (λ source. refusal_by false (reads n.Script (terminals source)))
-    (codes "" ∷ codes "'use strict'" ∷ codes "'a'; \"use strict\"; b" ∷ codes "('use strict')"
-    ∷ codes "'use\\x20strict'" ∷ codes "a; 'use strict'" ∷ codes "'use strict' + a" ∷ codes "'use strict'; +" ∷ [])
-    ≡ Some Sloppy ∷ None ∷ None ∷ Some Sloppy ∷ Some Sloppy ∷ Some Sloppy ∷ Some Sloppy ∷ Some (Syntax 15) ∷ []
-unfolding scanning class_by same_class same_bracket terminals reads_to reads_by
-    Rattle.hz_tree.specs.declared.tree.Tree.TheViews.out-Tree denote.Hole.Carrier.out
-    Rattle.hz_tree.specs.declared.tree.Tree.TheBlock.shown-the_row-Tree-0 denote.Hole.Carrier.shown
-    denote.Hole.Carrier.hidden Rattle.hz_tree.specs.declared.tree.Tree.TheBlock.shown-the_row-Tree-1
-sloppy = refl
 
 -- where the functions that events build start and end, and how many parameters count
 abbrev extents : (source : List ℕ) → Reading (List Event) → List (ℕ × (ℕ × ℕ))

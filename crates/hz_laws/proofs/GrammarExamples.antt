@@ -1,18 +1,23 @@
 -- What the grammar makes of short sources, computed: none where it reads them, or else the refusal.
-use Rattle.std.proofs.Common.{◌≡◌, ℕ, List, [], ◌∷◌, map, codes, true, Option, Some, None, refl}
+use Rattle.std.proofs.Common.{◌≡◌, ℕ, List, [], ◌∷◌, map, codes, Option, Some, None, refl}
 use Rattle.hz_tree.specs.declared.outside.OutsideKind.TheVariants as outside
 use Rattle.hz_tree.specs.declared.nonterminal.Nonterminal.TheVariants as n
 use Rattle.hz_tree.specs.declared.refusal.Refusal.{Refusal}
 use Rattle.hz_tree.specs.declared.refusal.Refusal.TheVariants.{Syntax, Outside}
+use Rattle.hz_tree.specs.declared.tree.Tree.{Tree}
 use Rattle.hz_tree.proofs.Scanning.{scanning}
 use Rattle.hz_tree.specs.grammar.Classes.{class_by, same_class, same_bracket}
 use Rattle.hz_tree.specs.grammar.Look.{terminals}
-use Rattle.hz_tree.specs.reading.Reading.{reads, reads_to, reads_by}
-use Rattle.hz_tree.specs.sources.Refusals.{refusal_by}
+use Rattle.hz_tree.specs.reading.Reading.{Reading, Stuck, reads, reads_to, reads_by, place_ahead}
+use Rattle.hz_tree.specs.sources.Refusals.{refusal_at}
 
--- a source read as strict code
+-- where the grammar is stuck
+abbrev stuck_in : Reading Tree → Option Refusal
+stuck_in (Stuck cause ts) = Some (refusal_at cause (place_ahead ts))
+stuck_in _ = None
+
 abbrev refused : List ℕ → Option Refusal
-refused source = refusal_by true (reads n.Script (terminals source))
+refused source = stuck_in (reads n.Script (terminals source))
 
 statements :
     map refused (codes "" ∷ codes "a;" ∷ codes "let a = 1\n++" ∷ codes "do ; while (0) 1;" ∷ codes "let let"

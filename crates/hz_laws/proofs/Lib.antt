@@ -5,6 +5,7 @@ pub mod Ranks
 pub mod Depth
 pub mod Told
 pub mod Made
+pub mod Sorted
 pub mod RowLaws
 pub mod ReadingLaws
 pub mod StackLaws

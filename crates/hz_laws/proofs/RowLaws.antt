@@ -1,7 +1,7 @@
 -- Every row of the grammar lets ranks fall until a token is taken, opens a function at a token that it takes, and makes
 -- what tells what its parts tell.
 use Rattle.std.proofs.Common.{◌≡◌, Bool, true, false, not, ◌&&◌, ◌||◌, if◌then◌else◌, nat_lt, List, [], ◌∷◌, Option}
-use Rattle.std.proofs.Common.{Some, None, refl, ap, ◌∙◌, append-nil, arith, rules}
+use Rattle.std.proofs.Common.{Some, None, refl, ap, sym, ◌∙◌, append-nil, arith, rules}
 use Rattle.std.proofs.lemmas.Bool.Decides.{nat_tests}
 use Rattle.hz_tree.specs.declared.class.Class.{Class}
 use Rattle.hz_tree.specs.declared.class.Class.TheVariants as k
@@ -38,12 +38,15 @@ use Rattle.hz_tree.specs.trees.Events.{events_of}
 use Rattle.hz_laws.proofs.Ranks.{rank, eats, falls, opens_well, is_fine, is_open, and_left, and_right}
 use Rattle.hz_laws.proofs.Depth.{Fine}
 use Rattle.hz_laws.proofs.Told.{TellsRow, tell_reading, tells_by}
+use Rattle.hz_laws.specs.Sorts.{script, fits_of}
+use Rattle.hz_laws.proofs.Sorted.{sorted_value, holds, sorts_by}
+use Rattle.hz_laws.proofs.Sorted.{SortsRow, fits_out, fits_next, fits_body, fits_element, sorted_applied, sort_laws}
 use Rattle.hz_laws.proofs.TreeLaws.{told_out, told_next}
 use Rattle.hz_laws.proofs.Made.{told_Bind, told_Return, told_If, told_Try, told_Yield, told_New}
 use Rattle.hz_laws.proofs.Made.{made_applied, made_for, told_one, row_laws, made_laws}
 
 abbrev pub Lawful : (m : Nonterminal) → Row m → Type 0
-Lawful m r = ((is_fine m (step_of r) && is_open m (step_of r)) ≡ true) × TellsRow m r
+Lawful m r = ((is_fine m (step_of r) && is_open m (step_of r)) ≡ true) × TellsRow m r × SortsRow m r
 
 lawful_if : (m : Nonterminal) (test : Bool) (a b : Row m) → Lawful m a → Lawful m b → Lawful m (if test then a else b)
 lawful_if m true a b h i = h
@@ -52,52 +55,52 @@ lawful_if m false a b h i = i
 -- ---- rows that test more than one class
 
 return_lawful : (c : Context) (returns : Bool) → Lawful (n.Statement c) (return_row c returns)
-return_lawful c true = (refl, λ p. told_Return _ _)
-return_lawful c false = (refl, λ p. first_of (simp row_laws, search rules))
+return_lawful c true = (refl, λ p. told_Return _ _, λ p h. (simp sort_laws) ∙ h)
+return_lawful c false = (refl, λ p. first_of (simp row_laws, search rules), λ p h. first_of (assumption, grind (arith, sort_laws)))
 
 statement_lawful : (c : Context) (l : Look) (one : Class) → Lawful (n.Statement c) (statement_by c l one)
-statement_lawful c l k.LeftBrace = (refl, λ p. told_one _)
-statement_lawful c l k.For = (refl, λ p. made_for _ _)
-statement_lawful c l k.If = (refl, λ p. told_If _ _ _ _ ∙ simp row_laws)
-statement_lawful c l k.Try = (refl, λ p. told_Try _ _ _ _ ∙ simp row_laws)
+statement_lawful c l k.LeftBrace = (refl, λ p. told_one _, λ p h. (simp sort_laws) ∙ h)
+statement_lawful c l k.For = (refl, λ p. made_for _ _, λ p h. (simp sort_laws) ∙ h)
+statement_lawful c l k.If = (refl, λ p. told_If _ _ _ _ ∙ simp row_laws, λ p h. (simp sort_laws) ∙ h)
+statement_lawful c l k.Try = (refl, λ p. told_Try _ _ _ _ ∙ simp row_laws, λ p h. (simp sort_laws) ∙ h)
 statement_lawful c l k.Return = return_lawful c c.returns
-statement_lawful c l k.Function = (refl, λ p. first_of (simp row_laws, search rules))
-statement_lawful c l _ = (refl, λ p. told_out _ ∙ simp made_laws)
+statement_lawful c l k.Function = (refl, λ p. first_of (simp row_laws, search rules), λ p h. first_of (assumption, grind (arith, sort_laws)))
+statement_lawful c l _ = (refl, λ p. told_out _ ∙ simp made_laws, λ p h. fits_out _ _ ∙ (simp sort_laws) ∙ h)
 
 declaration_lawful : (c : Context) (two : Class) → Lawful (n.Item c) (declaration_row c two)
-declaration_lawful c k.Star = (refl, λ p. told_out _ ∙ simp made_laws)
-declaration_lawful c _ = (refl, λ p. told_out _ ∙ simp made_laws)
+declaration_lawful c k.Star = (refl, λ p. told_out _ ∙ simp made_laws, λ p h. fits_out _ _ ∙ (simp sort_laws) ∙ h)
+declaration_lawful c _ = (refl, λ p. told_out _ ∙ simp made_laws, λ p h. fits_out _ _ ∙ (simp sort_laws) ∙ h)
 
 no_value_lawful : (word : DeclarationWord) (c : Context) → Lawful (n.Initial word c) (no_value word c)
-no_value_lawful word.Const c = (refl, λ p. refl)
-no_value_lawful _ c = (refl, λ p. refl)
+no_value_lawful word.Const c = (refl, λ p. refl, λ p h. h)
+no_value_lawful _ c = (refl, λ p. refl, λ p h. h)
 
 expr_end_lawful : (listed : Bool) (c : Context) → Lawful (n.ExprRest listed c) (expr_end listed c)
-expr_end_lawful true c = (refl, λ p. refl)
-expr_end_lawful false c = (refl, λ p. refl)
+expr_end_lawful true c = (refl, λ p. refl, λ p h. h)
+expr_end_lawful false c = (refl, λ p. refl, λ p h. h)
 
 head_lawful : (c : Context) (l : Look) (one : Class) → Lawful (n.Head c) (head_by c l one)
-head_lawful c l k.Var = (refl, λ p. first_of (simp row_laws, search rules))
-head_lawful c l k.Let = (refl, λ p. first_of (simp row_laws, search rules))
-head_lawful c l k.Const = (refl, λ p. first_of (simp row_laws, search rules))
-head_lawful c l k.Semicolon = (refl, λ p. first_of (simp row_laws, search rules))
+head_lawful c l k.Var = (refl, λ p. first_of (simp row_laws, search rules), λ p h. first_of (assumption, grind (arith, sort_laws)))
+head_lawful c l k.Let = (refl, λ p. first_of (simp row_laws, search rules), λ p h. first_of (assumption, grind (arith, sort_laws)))
+head_lawful c l k.Const = (refl, λ p. first_of (simp row_laws, search rules), λ p h. first_of (assumption, grind (arith, sort_laws)))
+head_lawful c l k.Semicolon = (refl, λ p. first_of (simp row_laws, search rules), λ p h. first_of (assumption, grind (arith, sort_laws)))
 head_lawful c l _ =
-    lawful_if (n.Head c) (is_async_word l.one && is_of l.two) _ _ (refl, λ p. first_of (simp row_laws, search rules))
-    (lawful_if (n.Head c) (is_no_left c l) _ _ (refl, λ p. first_of (simp row_laws, search rules))
-    (refl, λ p. first_of (simp row_laws, search rules)))
+    lawful_if (n.Head c) (is_async_word l.one && is_of l.two) _ _ (refl, λ p. first_of (simp row_laws, search rules), λ p h. first_of (assumption, grind (arith, sort_laws)))
+    (lawful_if (n.Head c) (is_no_left c l) _ _ (refl, λ p. first_of (simp row_laws, search rules), λ p h. first_of (assumption, grind (arith, sort_laws)))
+    (refl, λ p. first_of (simp row_laws, search rules), λ p h. first_of (assumption, grind (arith, sort_laws))))
 
 operator_lawful : (loosest tightest : Level) (c : Context) (one : Class) (assigned : Option AssignOperator)
     (updated : Option UpdateOperator) (joined : Option BinaryOperator)
     → Lawful (n.Rests loosest tightest c) (operator_row loosest tightest c one assigned updated joined)
 operator_lawful loosest tightest c one (Some operator) updated joined =
-    (refl, λ p. first_of (simp row_laws, search rules))
-operator_lawful loosest tightest c one None (Some operator) joined = (refl, λ p. first_of (simp row_laws, search rules))
-operator_lawful loosest tightest c one None None (Some operator) = (refl, λ p. first_of (simp row_laws, search rules))
-operator_lawful loosest tightest c one None None None = (refl, λ p. first_of (simp row_laws, search rules))
+    (refl, λ p. first_of (simp row_laws, search rules), λ p h. first_of (assumption, grind (arith, sort_laws)))
+operator_lawful loosest tightest c one None (Some operator) joined = (refl, λ p. first_of (simp row_laws, search rules), λ p h. first_of (assumption, grind (arith, sort_laws)))
+operator_lawful loosest tightest c one None None (Some operator) = (refl, λ p. first_of (simp row_laws, search rules), λ p h. first_of (assumption, grind (arith, sort_laws)))
+operator_lawful loosest tightest c one None None None = (refl, λ p. first_of (simp row_laws, search rules), λ p h. first_of (assumption, grind (arith, sort_laws)))
 
 rest_lawful : (loosest tightest : Level) (c : Context) (one : Class)
     → Lawful (n.Rests loosest tightest c) (rest_row loosest tightest c one)
-rest_lawful loosest tightest c k.Question = (refl, λ p. first_of (simp row_laws, search rules))
+rest_lawful loosest tightest c k.Question = (refl, λ p. first_of (simp row_laws, search rules), λ p h. first_of (assumption, grind (arith, sort_laws)))
 rest_lawful loosest tightest c one =
     operator_lawful loosest tightest c one (assign_operator one) (update_operator one) (binary_operator one)
 
@@ -105,7 +108,7 @@ rests_lawful : (loosest tightest : Level) (c : Context) (l : Look)
     → Lawful (n.Rests loosest tightest c) (rests_row loosest tightest c l)
 rests_lawful loosest tightest c l =
     lawful_if (n.Rests loosest tightest c) (reads_on loosest tightest c l.one_newline l.one) _ _
-    (rest_lawful loosest tightest c l.one) (refl, λ p. first_of (simp row_laws, search rules))
+    (rest_lawful loosest tightest c l.one) (refl, λ p. first_of (simp row_laws, search rules), λ p h. first_of (assumption, grind (arith, sort_laws)))
 
 -- a right-hand side that reads nothing before it takes a token is fine for a higher rank too
 falls_more : (right : List Symbol) → falls 0 right ≡ true → falls 1 right ≡ true
@@ -123,29 +126,29 @@ fine_more right h =
 
 without_lawful : (loosest : Level) (c : Context) (r : Row (n.Rests loosest level.Update c))
     → Lawful (n.Rests loosest level.Update c) r → Lawful (n.Tails false loosest c) (without_tails loosest c r)
-without_lawful loosest c (goes right make) h = (fine_more right h.0, h.1)
-without_lawful loosest c (refuses cause) h = (refl, h.1)
+without_lawful loosest c (goes right make) h = (fine_more right h.0, h.1, h.2)
+without_lawful loosest c (refuses cause) h = (refl, h.1, h.2)
 
 tails_end_lawful : (tailed : Bool) (loosest : Level) (c : Context) (l : Look)
     → Lawful (n.Tails tailed loosest c) (tails_end tailed loosest c l)
-tails_end_lawful true loosest c l = (refl, λ p. first_of (simp row_laws, search rules))
+tails_end_lawful true loosest c l = (refl, λ p. first_of (simp row_laws, search rules), λ p h. first_of (assumption, grind (arith, sort_laws)))
 tails_end_lawful false loosest c l =
     without_lawful loosest c (rests_row loosest level.Update c l) (rests_lawful loosest level.Update c l)
 
 tails_lawful : (tailed : Bool) (loosest : Level) (c : Context) (l : Look) (one : Class)
     → Lawful (n.Tails tailed loosest c) (tails_by tailed loosest c l one)
-tails_lawful tailed loosest c l k.Dot = (refl, λ p. simp row_laws)
-tails_lawful tailed loosest c l k.LeftBracket = (refl, λ p. simp row_laws)
-tails_lawful tailed loosest c l k.LeftParen = (refl, λ p. first_of (simp row_laws, search rules))
-tails_lawful tailed loosest c l k.OptionalDot = (refl, λ p. simp row_laws)
-tails_lawful tailed loosest c l k.TemplateWhole = (refl, λ p. first_of (simp row_laws, search rules))
-tails_lawful tailed loosest c l k.TemplateHead = (refl, λ p. first_of (simp row_laws, search rules))
+tails_lawful tailed loosest c l k.Dot = (refl, λ p. simp row_laws, λ p h. first_of (assumption, grind (arith, sort_laws)))
+tails_lawful tailed loosest c l k.LeftBracket = (refl, λ p. simp row_laws, λ p h. first_of (assumption, grind (arith, sort_laws)))
+tails_lawful tailed loosest c l k.LeftParen = (refl, λ p. first_of (simp row_laws, search rules), λ p h. first_of (assumption, grind (arith, sort_laws)))
+tails_lawful tailed loosest c l k.OptionalDot = (refl, λ p. simp row_laws, λ p h. first_of (assumption, grind (arith, sort_laws)))
+tails_lawful tailed loosest c l k.TemplateWhole = (refl, λ p. first_of (simp row_laws, search rules), λ p h. first_of (assumption, grind (arith, sort_laws)))
+tails_lawful tailed loosest c l k.TemplateHead = (refl, λ p. first_of (simp row_laws, search rules), λ p h. first_of (assumption, grind (arith, sort_laws)))
 tails_lawful tailed loosest c l _ = tails_end_lawful tailed loosest c l
 
 arrow_lawful : (loosest : Level) (c : Context) (parenthesised : Bool)
     → Lawful (n.Operation loosest c) (arrow_row loosest c parenthesised)
-arrow_lawful loosest c true = (refl, λ p. told_out _ ∙ simp made_laws)
-arrow_lawful loosest c false = (refl, λ p. told_out _ ∙ simp made_laws)
+arrow_lawful loosest c true = (refl, λ p. told_out _ ∙ simp made_laws, λ p h. fits_out _ _ ∙ (simp sort_laws) ∙ h)
+arrow_lawful loosest c false = (refl, λ p. told_out _ ∙ simp made_laws, λ p h. fits_out _ _ ∙ (simp sort_laws) ∙ h)
 
 operand_lawful : (loosest : Level) (c : Context) (one : Class) (operator : Option UnaryOperator)
     → Lawful (n.Operation loosest c) (operand_row loosest c one operator)
@@ -153,59 +156,61 @@ operand_lawful loosest c one (Some operator) = (
   refl,
   λ p.
       made_applied p.1.1.1.1.1.1.0 (t.Unary p.0.at operator p.1.1.0) ∙ told_next _ _ ∙ simp made_laws,
+  λ p h.
+      sorted_applied p.1.1.1.1.1.1.0 (t.Unary p.0.at operator p.1.1.0) ∙ fits_next _ _ _ ∙ (simp sort_laws) ∙ h,
 )
-operand_lawful loosest c one None = (refl, λ p. first_of (simp row_laws, search rules))
+operand_lawful loosest c one None = (refl, λ p. first_of (simp row_laws, search rules), λ p h. first_of (assumption, grind (arith, sort_laws)))
 
 operation_lawful : (loosest : Level) (c : Context) (yields : Bool) (one : Class)
     → Lawful (n.Operation loosest c) (operation_by loosest c yields one)
-operation_lawful loosest c true k.Yield = (refl, λ p. told_Yield _ _ _)
+operation_lawful loosest c true k.Yield = (refl, λ p. told_Yield _ _ _, λ p h. (simp sort_laws) ∙ h)
 operation_lawful loosest c yields one = operand_lawful loosest c one (unary_operator one)
 
 new_lawful : (c : Context) (two : Class) → Lawful (n.Primary c) (new_row c two)
-new_lawful c k.Dot = (refl, λ p. told_out _ ∙ simp made_laws)
-new_lawful c _ = (refl, λ p. told_New _ _ _ _ ∙ simp row_laws)
+new_lawful c k.Dot = (refl, λ p. told_out _ ∙ simp made_laws, λ p h. fits_out _ _ ∙ (simp sort_laws) ∙ h)
+new_lawful c _ = (refl, λ p. told_New _ _ _ _ ∙ simp row_laws, λ p h. (simp sort_laws) ∙ h)
 
 function_lawful : (c : Context) (two : Class) → Lawful (n.Primary c) (function_expression_row c two)
-function_lawful c k.Star = (refl, λ p. told_out _ ∙ simp made_laws)
-function_lawful c _ = (refl, λ p. told_out _ ∙ simp made_laws)
+function_lawful c k.Star = (refl, λ p. told_out _ ∙ simp made_laws, λ p h. fits_out _ _ ∙ (simp sort_laws) ∙ h)
+function_lawful c _ = (refl, λ p. told_out _ ∙ simp made_laws, λ p h. fits_out _ _ ∙ (simp sort_laws) ∙ h)
 
 primary_lawful : (c : Context) (l : Look) (one : Class) → Lawful (n.Primary c) (primary_by c l one)
-primary_lawful c l k.Slash = (refl, λ p. first_of (simp row_laws, search rules))
-primary_lawful c l k.SlashAssign = (refl, λ p. first_of (simp row_laws, search rules))
+primary_lawful c l k.Slash = (refl, λ p. first_of (simp row_laws, search rules), λ p h. first_of (assumption, grind (arith, sort_laws)))
+primary_lawful c l k.SlashAssign = (refl, λ p. first_of (simp row_laws, search rules), λ p h. first_of (assumption, grind (arith, sort_laws)))
 primary_lawful c l k.New = new_lawful c l.two
 primary_lawful c l k.Function = function_lawful c l.two
-primary_lawful c l k.This = (refl, λ p. told_out _ ∙ simp made_laws)
-primary_lawful c l k.Null = (refl, λ p. told_out _ ∙ simp made_laws)
-primary_lawful c l k.True = (refl, λ p. told_out _ ∙ simp made_laws)
-primary_lawful c l k.False = (refl, λ p. told_out _ ∙ simp made_laws)
-primary_lawful c l k.Number = (refl, λ p. told_out _ ∙ simp made_laws)
-primary_lawful c l k.OctalNumber = (refl, λ p. told_out _ ∙ simp made_laws)
-primary_lawful c l k.Text = (refl, λ p. told_out _ ∙ simp made_laws)
-primary_lawful c l k.LeftParen = (refl, λ p. told_out _ ∙ simp made_laws)
-primary_lawful c l k.TemplateWhole = (refl, λ p. told_out _ ∙ simp made_laws)
-primary_lawful c l k.TemplateHead = (refl, λ p. told_out _ ∙ simp made_laws)
-primary_lawful c l k.LeftBracket = (refl, λ p. told_out _ ∙ simp made_laws)
-primary_lawful c l k.LeftBrace = (refl, λ p. told_out _ ∙ simp made_laws)
+primary_lawful c l k.This = (refl, λ p. told_out _ ∙ simp made_laws, λ p h. fits_out _ _ ∙ (simp sort_laws) ∙ h)
+primary_lawful c l k.Null = (refl, λ p. told_out _ ∙ simp made_laws, λ p h. fits_out _ _ ∙ (simp sort_laws) ∙ h)
+primary_lawful c l k.True = (refl, λ p. told_out _ ∙ simp made_laws, λ p h. fits_out _ _ ∙ (simp sort_laws) ∙ h)
+primary_lawful c l k.False = (refl, λ p. told_out _ ∙ simp made_laws, λ p h. fits_out _ _ ∙ (simp sort_laws) ∙ h)
+primary_lawful c l k.Number = (refl, λ p. told_out _ ∙ simp made_laws, λ p h. fits_out _ _ ∙ (simp sort_laws) ∙ h)
+primary_lawful c l k.OctalNumber = (refl, λ p. told_out _ ∙ simp made_laws, λ p h. fits_out _ _ ∙ (simp sort_laws) ∙ h)
+primary_lawful c l k.Text = (refl, λ p. told_out _ ∙ simp made_laws, λ p h. fits_out _ _ ∙ (simp sort_laws) ∙ h)
+primary_lawful c l k.LeftParen = (refl, λ p. told_out _ ∙ simp made_laws, λ p h. fits_out _ _ ∙ (simp sort_laws) ∙ h)
+primary_lawful c l k.TemplateWhole = (refl, λ p. told_out _ ∙ simp made_laws, λ p h. fits_out _ _ ∙ (simp sort_laws) ∙ h)
+primary_lawful c l k.TemplateHead = (refl, λ p. told_out _ ∙ simp made_laws, λ p h. fits_out _ _ ∙ (simp sort_laws) ∙ h)
+primary_lawful c l k.LeftBracket = (refl, λ p. told_out _ ∙ simp made_laws, λ p h. fits_out _ _ ∙ (simp sort_laws) ∙ h)
+primary_lawful c l k.LeftBrace = (refl, λ p. told_out _ ∙ simp made_laws, λ p h. fits_out _ _ ∙ (simp sort_laws) ∙ h)
 primary_lawful c l _ =
-    lawful_if (n.Primary c) (is_name l.one) _ _ (refl, λ p. told_out _ ∙ simp made_laws)
-    (refl, λ p. first_of (simp row_laws, search rules))
+    lawful_if (n.Primary c) (is_name l.one) _ _ (refl, λ p. told_out _ ∙ simp made_laws, λ p h. fits_out _ _ ∙ (simp sort_laws) ∙ h)
+    (refl, λ p. first_of (simp row_laws, search rules), λ p h. first_of (assumption, grind (arith, sort_laws)))
 
 plain_lawful : (c : Context) (l : Look) → Lawful (n.Prop c) (plain_prop_row c l)
 plain_lawful c l =
     lawful_if (n.Prop c) (is_name l.one && (not (is_colon l.two) && not (is_paren l.two))) _ _
-    (refl, λ p. told_out _ ∙ simp made_laws) (refl, λ p. first_of (simp row_laws, search rules))
+    (refl, λ p. told_out _ ∙ simp made_laws, λ p h. fits_out _ _ ∙ (simp sort_laws) ∙ h) (refl, λ p. first_of (simp row_laws, search rules), λ p h. first_of (assumption, grind (arith, sort_laws)))
 
 getter_lawful : (c : Context) (l : Look) (keyed : Bool) → Lawful (n.Prop c) (getter_row c l keyed)
-getter_lawful c l true = (refl, λ p. told_out _ ∙ simp made_laws)
+getter_lawful c l true = (refl, λ p. told_out _ ∙ simp made_laws, λ p h. fits_out _ _ ∙ (simp sort_laws) ∙ h)
 getter_lawful c l false = plain_lawful c l
 
 setter_lawful : (c : Context) (l : Look) (keyed : Bool) → Lawful (n.Prop c) (setter_row c l keyed)
-setter_lawful c l true = (refl, λ p. told_out _ ∙ simp made_laws)
+setter_lawful c l true = (refl, λ p. told_out _ ∙ simp made_laws, λ p h. fits_out _ _ ∙ (simp sort_laws) ∙ h)
 setter_lawful c l false = plain_lawful c l
 
 prop_lawful : (c : Context) (l : Look) (one : Class) → Lawful (n.Prop c) (prop_by c l one)
-prop_lawful c l k.Ellipsis = (refl, λ p. told_out _ ∙ simp made_laws)
-prop_lawful c l k.Star = (refl, λ p. told_out _ ∙ simp made_laws)
+prop_lawful c l k.Ellipsis = (refl, λ p. told_out _ ∙ simp made_laws, λ p h. fits_out _ _ ∙ (simp sort_laws) ∙ h)
+prop_lawful c l k.Star = (refl, λ p. told_out _ ∙ simp made_laws, λ p h. fits_out _ _ ∙ (simp sort_laws) ∙ h)
 prop_lawful c l k.Get = getter_lawful c l (begins_key l.two)
 prop_lawful c l k.Set = setter_lawful c l (begins_key l.two)
 prop_lawful c l _ = plain_lawful c l
@@ -218,117 +223,117 @@ looked one one_newline two two_newline arrow =
 
 lawful_at : (m : Nonterminal) (one : Class) (newline : Bool) (two : Class) (newline' arrow : Bool)
     → Lawful m (row m (looked one newline two newline' arrow))
-lawful_at n.Script _ _ _ _ _ = (refl, λ p. told_out _ ∙ simp made_laws)
-lawful_at (n.Items c) k.RightBrace _ _ _ _ = (refl, λ p. first_of (simp row_laws, search rules))
-lawful_at (n.Items c) _ _ _ _ _ = (refl, λ p. first_of (simp row_laws, search rules))
+lawful_at n.Script _ _ _ _ _ = (refl, λ p. told_out _ ∙ simp made_laws, λ p h. fits_out _ _ ∙ (simp sort_laws) ∙ h)
+lawful_at (n.Items c) k.RightBrace _ _ _ _ = (refl, λ p. first_of (simp row_laws, search rules), λ p h. first_of (assumption, grind (arith, sort_laws)))
+lawful_at (n.Items c) _ _ _ _ _ = (refl, λ p. first_of (simp row_laws, search rules), λ p h. first_of (assumption, grind (arith, sort_laws)))
 lawful_at (n.Item c) k.Function _ two _ _ = declaration_lawful c two
-lawful_at (n.Item c) k.Let _ _ _ _ = (refl, λ p. told_out _ ∙ simp made_laws)
-lawful_at (n.Item c) k.Const _ _ _ _ = (refl, λ p. told_out _ ∙ simp made_laws)
-lawful_at (n.Item c) _ _ _ _ _ = (refl, λ p. told_one _)
-lawful_at (n.Block c) _ _ _ _ _ = (refl, λ p. told_out _ ∙ simp made_laws)
-lawful_at (n.Binds word c) _ _ _ _ _ = (refl, λ p. first_of (simp row_laws, search rules))
-lawful_at (n.Bind word c) _ _ _ _ _ = (refl, λ p. told_Bind _ word _ _ ∙ simp append-nil)
-lawful_at (n.MoreBinds word c) k.Comma _ _ _ _ = (refl, λ p. first_of (simp row_laws, search rules))
-lawful_at (n.MoreBinds word c) _ _ _ _ _ = (refl, λ p. refl)
-lawful_at (n.Initial word c) k.Assign _ _ _ _ = (refl, λ p. first_of (simp row_laws, search rules))
+lawful_at (n.Item c) k.Let _ _ _ _ = (refl, λ p. told_out _ ∙ simp made_laws, λ p h. fits_out _ _ ∙ (simp sort_laws) ∙ h)
+lawful_at (n.Item c) k.Const _ _ _ _ = (refl, λ p. told_out _ ∙ simp made_laws, λ p h. fits_out _ _ ∙ (simp sort_laws) ∙ h)
+lawful_at (n.Item c) _ _ _ _ _ = (refl, λ p. told_one _, λ p h. (simp sort_laws) ∙ h)
+lawful_at (n.Block c) _ _ _ _ _ = (refl, λ p. told_out _ ∙ simp made_laws, λ p h. fits_out _ _ ∙ (simp sort_laws) ∙ h)
+lawful_at (n.Binds word c) _ _ _ _ _ = (refl, λ p. first_of (simp row_laws, search rules), λ p h. first_of (assumption, grind (arith, sort_laws)))
+lawful_at (n.Bind word c) _ _ _ _ _ = (refl, λ p. told_Bind _ word _ _ ∙ simp append-nil, λ p h. (simp sort_laws) ∙ h)
+lawful_at (n.MoreBinds word c) k.Comma _ _ _ _ = (refl, λ p. first_of (simp row_laws, search rules), λ p h. first_of (assumption, grind (arith, sort_laws)))
+lawful_at (n.MoreBinds word c) _ _ _ _ _ = (refl, λ p. refl, λ p h. h)
+lawful_at (n.Initial word c) k.Assign _ _ _ _ = (refl, λ p. first_of (simp row_laws, search rules), λ p h. first_of (assumption, grind (arith, sort_laws)))
 lawful_at (n.Initial word c) _ _ _ _ _ = no_value_lawful word c
-lawful_at (n.Bound role) k.LeftBracket _ _ _ _ = (refl, λ p. first_of (simp row_laws, search rules))
-lawful_at (n.Bound role) _ _ _ _ _ = (refl, λ p. refl)
-lawful_at n.Semi k.Semicolon _ _ _ _ = (refl, λ p. first_of (simp row_laws, search rules))
-lawful_at n.Semi _ true _ _ _ = (refl, λ p. refl)
-lawful_at n.Semi _ false _ _ _ = (refl, λ p. refl)
-lawful_at n.LooseSemi k.Semicolon _ _ _ _ = (refl, λ p. first_of (simp row_laws, search rules))
-lawful_at n.LooseSemi _ _ _ _ _ = (refl, λ p. refl)
-lawful_at (n.Else c) k.Else _ _ _ _ = (refl, λ p. first_of (simp row_laws, search rules))
-lawful_at (n.Else c) _ _ _ _ _ = (refl, λ p. refl)
-lawful_at (n.Label jump) _ true _ _ _ = (refl, λ p. refl)
+lawful_at (n.Bound role) k.LeftBracket _ _ _ _ = (refl, λ p. first_of (simp row_laws, search rules), λ p h. first_of (assumption, grind (arith, sort_laws)))
+lawful_at (n.Bound role) _ _ _ _ _ = (refl, λ p. refl, λ p h. h)
+lawful_at n.Semi k.Semicolon _ _ _ _ = (refl, λ p. first_of (simp row_laws, search rules), λ p h. first_of (assumption, grind (arith, sort_laws)))
+lawful_at n.Semi _ true _ _ _ = (refl, λ p. refl, λ p h. h)
+lawful_at n.Semi _ false _ _ _ = (refl, λ p. refl, λ p h. h)
+lawful_at n.LooseSemi k.Semicolon _ _ _ _ = (refl, λ p. first_of (simp row_laws, search rules), λ p h. first_of (assumption, grind (arith, sort_laws)))
+lawful_at n.LooseSemi _ _ _ _ _ = (refl, λ p. refl, λ p h. h)
+lawful_at (n.Else c) k.Else _ _ _ _ = (refl, λ p. first_of (simp row_laws, search rules), λ p h. first_of (assumption, grind (arith, sort_laws)))
+lawful_at (n.Else c) _ _ _ _ _ = (refl, λ p. refl, λ p h. h)
+lawful_at (n.Label jump) _ true _ _ _ = (refl, λ p. refl, λ p h. h)
 lawful_at (n.Label jump) one false _ _ _ =
-    lawful_if (n.Label jump) (is_name one) _ _ (refl, λ p. refl) (refl, λ p. refl)
-lawful_at (n.ReturnValue c) k.Semicolon true _ _ _ = (refl, λ p. first_of (simp row_laws, search rules))
-lawful_at (n.ReturnValue c) _ true _ _ _ = (refl, λ p. refl)
-lawful_at (n.ReturnValue c) _ _ _ _ _ = (refl, λ p. refl)
-lawful_at (n.ThrowValue c) _ true _ _ _ = (refl, λ p. first_of (simp row_laws, search rules))
-lawful_at (n.ThrowValue c) _ _ _ _ _ = (refl, λ p. refl)
-lawful_at (n.Clauses c has_default) k.Case _ _ _ _ = (refl, λ p. told_next _ _ ∙ simp made_laws)
-lawful_at (n.Clauses c false) k.Default _ _ _ _ = (refl, λ p. told_next _ _ ∙ simp made_laws)
-lawful_at (n.Clauses c true) k.Default _ _ _ _ = (refl, λ p. first_of (simp row_laws, search rules))
-lawful_at (n.Clauses c has_default) _ _ _ _ _ = (refl, λ p. refl)
-lawful_at (n.Handlers c) k.Catch _ _ _ _ = (refl, λ p. first_of (simp row_laws, search rules))
-lawful_at (n.Handlers c) _ _ _ _ _ = (refl, λ p. first_of (simp row_laws, search rules))
-lawful_at (n.CatchClause c) _ _ _ _ _ = (refl, λ p. told_out _ ∙ simp made_laws)
-lawful_at n.CatchName k.LeftParen _ _ _ _ = (refl, λ p. first_of (simp row_laws, search rules))
-lawful_at n.CatchName _ _ _ _ _ = (refl, λ p. refl)
-lawful_at (n.Finally c) k.Finally _ _ _ _ = (refl, λ p. first_of (simp row_laws, search rules))
-lawful_at (n.Finally c) _ _ _ _ _ = (refl, λ p. refl)
-lawful_at n.ForOpen k.Await _ _ _ _ = (refl, λ p. first_of (simp row_laws, search rules))
-lawful_at n.ForOpen _ _ _ _ _ = (refl, λ p. refl)
-lawful_at (n.DeclaredHead word c) k.In _ _ _ _ = (refl, λ p. first_of (simp row_laws, search rules))
-lawful_at (n.DeclaredHead word c) _ _ _ _ _ = (refl, λ p. first_of (simp row_laws, search rules))
-lawful_at (n.LeftHead c) k.In _ _ _ _ = (refl, λ p. first_of (simp row_laws, search rules))
-lawful_at (n.LeftHead c) _ _ _ _ _ = (refl, λ p. first_of (simp row_laws, search rules))
-lawful_at (n.OptionalExpr c) k.Semicolon _ _ _ _ = (refl, λ p. first_of (simp row_laws, search rules))
-lawful_at (n.OptionalExpr c) _ _ _ _ _ = (refl, λ p. refl)
-lawful_at (n.Expr c) _ _ _ _ _ = (refl, λ p. first_of (simp row_laws, search rules))
-lawful_at (n.ExprRest listed c) k.Comma _ _ _ _ = (refl, λ p. first_of (simp row_laws, search rules))
+    lawful_if (n.Label jump) (is_name one) _ _ (refl, λ p. refl, λ p h. h) (refl, λ p. refl, λ p h. h)
+lawful_at (n.ReturnValue c) k.Semicolon true _ _ _ = (refl, λ p. first_of (simp row_laws, search rules), λ p h. first_of (assumption, grind (arith, sort_laws)))
+lawful_at (n.ReturnValue c) _ true _ _ _ = (refl, λ p. refl, λ p h. h)
+lawful_at (n.ReturnValue c) _ _ _ _ _ = (refl, λ p. refl, λ p h. h)
+lawful_at (n.ThrowValue c) _ true _ _ _ = (refl, λ p. first_of (simp row_laws, search rules), λ p h. first_of (assumption, grind (arith, sort_laws)))
+lawful_at (n.ThrowValue c) _ _ _ _ _ = (refl, λ p. refl, λ p h. (simp sort_laws) ∙ h)
+lawful_at (n.Clauses c has_default) k.Case _ _ _ _ = (refl, λ p. told_next _ _ ∙ simp made_laws, λ p h. fits_next _ _ _ ∙ (simp sort_laws) ∙ h)
+lawful_at (n.Clauses c false) k.Default _ _ _ _ = (refl, λ p. told_next _ _ ∙ simp made_laws, λ p h. fits_next _ _ _ ∙ (simp sort_laws) ∙ h)
+lawful_at (n.Clauses c true) k.Default _ _ _ _ = (refl, λ p. first_of (simp row_laws, search rules), λ p h. first_of (assumption, grind (arith, sort_laws)))
+lawful_at (n.Clauses c has_default) _ _ _ _ _ = (refl, λ p. refl, λ p h. h)
+lawful_at (n.Handlers c) k.Catch _ _ _ _ = (refl, λ p. first_of (simp row_laws, search rules), λ p h. first_of (assumption, grind (arith, sort_laws)))
+lawful_at (n.Handlers c) _ _ _ _ _ = (refl, λ p. first_of (simp row_laws, search rules), λ p h. first_of (assumption, grind (arith, sort_laws)))
+lawful_at (n.CatchClause c) _ _ _ _ _ = (refl, λ p. told_out _ ∙ simp made_laws, λ p h. fits_out _ _ ∙ (simp sort_laws) ∙ h)
+lawful_at n.CatchName k.LeftParen _ _ _ _ = (refl, λ p. first_of (simp row_laws, search rules), λ p h. first_of (assumption, grind (arith, sort_laws)))
+lawful_at n.CatchName _ _ _ _ _ = (refl, λ p. refl, λ p h. h)
+lawful_at (n.Finally c) k.Finally _ _ _ _ = (refl, λ p. first_of (simp row_laws, search rules), λ p h. first_of (assumption, grind (arith, sort_laws)))
+lawful_at (n.Finally c) _ _ _ _ _ = (refl, λ p. refl, λ p h. h)
+lawful_at n.ForOpen k.Await _ _ _ _ = (refl, λ p. first_of (simp row_laws, search rules), λ p h. first_of (assumption, grind (arith, sort_laws)))
+lawful_at n.ForOpen _ _ _ _ _ = (refl, λ p. refl, λ p h. h)
+lawful_at (n.DeclaredHead word c) k.In _ _ _ _ = (refl, λ p. first_of (simp row_laws, search rules), λ p h. first_of (assumption, grind (arith, sort_laws)))
+lawful_at (n.DeclaredHead word c) _ _ _ _ _ = (refl, λ p. first_of (simp row_laws, search rules), λ p h. first_of (assumption, grind (arith, sort_laws)))
+lawful_at (n.LeftHead c) k.In _ _ _ _ = (refl, λ p. first_of (simp row_laws, search rules), λ p h. first_of (assumption, grind (arith, sort_laws)))
+lawful_at (n.LeftHead c) _ _ _ _ _ = (refl, λ p. first_of (simp row_laws, search rules), λ p h. first_of (assumption, grind (arith, sort_laws)))
+lawful_at (n.OptionalExpr c) k.Semicolon _ _ _ _ = (refl, λ p. first_of (simp row_laws, search rules), λ p h. first_of (assumption, grind (arith, sort_laws)))
+lawful_at (n.OptionalExpr c) _ _ _ _ _ = (refl, λ p. refl, λ p h. h)
+lawful_at (n.Expr c) _ _ _ _ _ = (refl, λ p. first_of (simp row_laws, search rules), λ p h. first_of (assumption, grind (arith, sort_laws)))
+lawful_at (n.ExprRest listed c) k.Comma _ _ _ _ = (refl, λ p. first_of (simp row_laws, search rules), λ p h. first_of (assumption, grind (arith, sort_laws)))
 lawful_at (n.ExprRest listed c) _ _ _ _ _ = expr_end_lawful listed c
-lawful_at n.ArrowSign _ true _ _ _ = (refl, λ p. first_of (simp row_laws, search rules))
-lawful_at n.ArrowSign _ _ _ _ _ = (refl, λ p. refl)
-lawful_at (n.ArrowBody c) k.LeftBrace _ _ _ _ = (refl, λ p. first_of (simp row_laws, search rules))
-lawful_at (n.ArrowBody c) _ _ _ _ _ = (refl, λ p. told_one _)
-lawful_at (n.YieldValue c) k.Star true _ _ _ = (refl, λ p. first_of (simp row_laws, search rules))
-lawful_at (n.YieldValue c) _ true _ _ _ = (refl, λ p. refl)
-lawful_at (n.YieldValue c) _ _ _ _ _ = (refl, λ p. refl)
-lawful_at (n.OptionalTail c) k.LeftBracket _ _ _ _ = (refl, λ p. told_out _ ∙ simp made_laws)
-lawful_at (n.OptionalTail c) k.LeftParen _ _ _ _ = (refl, λ p. first_of (simp row_laws, search rules))
-lawful_at (n.OptionalTail c) k.TemplateWhole _ _ _ _ = (refl, λ p. first_of (simp row_laws, search rules))
-lawful_at (n.OptionalTail c) k.TemplateHead _ _ _ _ = (refl, λ p. first_of (simp row_laws, search rules))
-lawful_at (n.OptionalTail c) _ _ _ _ _ = (refl, λ p. told_out _ ∙ simp made_laws)
-lawful_at n.Word k.Name _ _ _ _ = (refl, λ p. first_of (simp row_laws, search rules))
-lawful_at n.Word _ _ _ _ _ = (refl, λ p. refl)
-lawful_at (n.Members c) k.Dot _ _ _ _ = (refl, λ p. told_next _ _ ∙ simp made_laws)
-lawful_at (n.Members c) k.LeftBracket _ _ _ _ = (refl, λ p. told_next _ _ ∙ simp made_laws)
-lawful_at (n.Members c) _ _ _ _ _ = (refl, λ p. refl)
-lawful_at (n.NewArgs c) k.LeftParen _ _ _ _ = (refl, λ p. first_of (simp row_laws, search rules))
-lawful_at (n.NewArgs c) _ _ _ _ _ = (refl, λ p. refl)
-lawful_at (n.Args c) _ _ _ _ _ = (refl, λ p. told_out _ ∙ simp made_laws)
-lawful_at (n.Arguments c) k.RightParen _ _ _ _ = (refl, λ p. first_of (simp row_laws, search rules))
-lawful_at (n.Arguments c) _ _ _ _ _ = (refl, λ p. first_of (simp row_laws, search rules))
-lawful_at (n.MoreArguments c) k.Comma _ _ _ _ = (refl, λ p. first_of (simp row_laws, search rules))
-lawful_at (n.MoreArguments c) _ _ _ _ _ = (refl, λ p. refl)
-lawful_at (n.Argument c) k.Ellipsis _ _ _ _ = (refl, λ p. told_out _ ∙ simp made_laws)
-lawful_at (n.Argument c) _ _ _ _ _ = (refl, λ p. told_one _)
-lawful_at (n.TemplateRest c) k.TemplateMiddle _ _ _ _ = (refl, λ p. first_of (simp row_laws, search rules))
-lawful_at (n.TemplateRest c) _ _ _ _ _ = (refl, λ p. refl)
-lawful_at (n.Elements c) k.RightBracket _ _ _ _ = (refl, λ p. refl)
-lawful_at (n.Elements c) k.Comma _ _ _ _ = (refl, λ p. told_next _ _ ∙ simp made_laws)
-lawful_at (n.Elements c) _ _ _ _ _ = (refl, λ p. first_of (simp row_laws, search rules))
-lawful_at (n.MoreElements c) k.Comma _ _ _ _ = (refl, λ p. first_of (simp row_laws, search rules))
-lawful_at (n.MoreElements c) _ _ _ _ _ = (refl, λ p. refl)
-lawful_at (n.Props c) k.RightBrace _ _ _ _ = (refl, λ p. first_of (simp row_laws, search rules))
-lawful_at (n.Props c) _ _ _ _ _ = (refl, λ p. first_of (simp row_laws, search rules))
-lawful_at (n.MoreProps c) k.Comma _ _ _ _ = (refl, λ p. first_of (simp row_laws, search rules))
-lawful_at (n.MoreProps c) _ _ _ _ _ = (refl, λ p. refl)
-lawful_at n.ShorthandEnd k.Assign _ _ _ _ = (refl, λ p. first_of (simp row_laws, search rules))
-lawful_at n.ShorthandEnd _ _ _ _ _ = (refl, λ p. refl)
-lawful_at (n.KeyRest c) k.Colon _ _ _ _ = (refl, λ p. first_of (simp row_laws, search rules))
-lawful_at (n.KeyRest c) k.LeftParen _ _ _ _ = (refl, λ p. first_of (simp row_laws, search rules))
-lawful_at (n.KeyRest c) _ _ _ _ _ = (refl, λ p. refl)
-lawful_at (n.Key c) k.Text _ _ _ _ = (refl, λ p. told_out _ ∙ simp made_laws)
-lawful_at (n.Key c) _ _ _ _ _ = (refl, λ p. told_out _ ∙ simp made_laws)
+lawful_at n.ArrowSign _ true _ _ _ = (refl, λ p. first_of (simp row_laws, search rules), λ p h. first_of (assumption, grind (arith, sort_laws)))
+lawful_at n.ArrowSign _ _ _ _ _ = (refl, λ p. refl, λ p h. h)
+lawful_at (n.ArrowBody c) k.LeftBrace _ _ _ _ = (refl, λ p. first_of (simp row_laws, search rules), λ p h. first_of (assumption, grind (arith, sort_laws)))
+lawful_at (n.ArrowBody c) _ _ _ _ _ = (refl, λ p. told_one _, λ p h. fits_body _ h)
+lawful_at (n.YieldValue c) k.Star true _ _ _ = (refl, λ p. first_of (simp row_laws, search rules), λ p h. first_of (assumption, grind (arith, sort_laws)))
+lawful_at (n.YieldValue c) _ true _ _ _ = (refl, λ p. refl, λ p h. h)
+lawful_at (n.YieldValue c) _ _ _ _ _ = (refl, λ p. refl, λ p h. h)
+lawful_at (n.OptionalTail c) k.LeftBracket _ _ _ _ = (refl, λ p. told_out _ ∙ simp made_laws, λ p h. fits_out _ _ ∙ (simp sort_laws) ∙ h)
+lawful_at (n.OptionalTail c) k.LeftParen _ _ _ _ = (refl, λ p. first_of (simp row_laws, search rules), λ p h. first_of (assumption, grind (arith, sort_laws)))
+lawful_at (n.OptionalTail c) k.TemplateWhole _ _ _ _ = (refl, λ p. first_of (simp row_laws, search rules), λ p h. first_of (assumption, grind (arith, sort_laws)))
+lawful_at (n.OptionalTail c) k.TemplateHead _ _ _ _ = (refl, λ p. first_of (simp row_laws, search rules), λ p h. first_of (assumption, grind (arith, sort_laws)))
+lawful_at (n.OptionalTail c) _ _ _ _ _ = (refl, λ p. told_out _ ∙ simp made_laws, λ p h. fits_out _ _ ∙ (simp sort_laws) ∙ h)
+lawful_at n.Word k.Name _ _ _ _ = (refl, λ p. first_of (simp row_laws, search rules), λ p h. first_of (assumption, grind (arith, sort_laws)))
+lawful_at n.Word _ _ _ _ _ = (refl, λ p. refl, λ p h. h)
+lawful_at (n.Members c) k.Dot _ _ _ _ = (refl, λ p. told_next _ _ ∙ simp made_laws, λ p h. fits_next _ _ _ ∙ (simp sort_laws) ∙ h)
+lawful_at (n.Members c) k.LeftBracket _ _ _ _ = (refl, λ p. told_next _ _ ∙ simp made_laws, λ p h. fits_next _ _ _ ∙ (simp sort_laws) ∙ h)
+lawful_at (n.Members c) _ _ _ _ _ = (refl, λ p. refl, λ p h. h)
+lawful_at (n.NewArgs c) k.LeftParen _ _ _ _ = (refl, λ p. first_of (simp row_laws, search rules), λ p h. first_of (assumption, grind (arith, sort_laws)))
+lawful_at (n.NewArgs c) _ _ _ _ _ = (refl, λ p. refl, λ p h. h)
+lawful_at (n.Args c) _ _ _ _ _ = (refl, λ p. told_out _ ∙ simp made_laws, λ p h. fits_out _ _ ∙ (simp sort_laws) ∙ h)
+lawful_at (n.Arguments c) k.RightParen _ _ _ _ = (refl, λ p. first_of (simp row_laws, search rules), λ p h. first_of (assumption, grind (arith, sort_laws)))
+lawful_at (n.Arguments c) _ _ _ _ _ = (refl, λ p. first_of (simp row_laws, search rules), λ p h. first_of (assumption, grind (arith, sort_laws)))
+lawful_at (n.MoreArguments c) k.Comma _ _ _ _ = (refl, λ p. first_of (simp row_laws, search rules), λ p h. first_of (assumption, grind (arith, sort_laws)))
+lawful_at (n.MoreArguments c) _ _ _ _ _ = (refl, λ p. refl, λ p h. h)
+lawful_at (n.Argument c) k.Ellipsis _ _ _ _ = (refl, λ p. told_out _ ∙ simp made_laws, λ p h. fits_out _ _ ∙ (simp sort_laws) ∙ h)
+lawful_at (n.Argument c) _ _ _ _ _ = (refl, λ p. told_one _, λ p h. fits_element _ h)
+lawful_at (n.TemplateRest c) k.TemplateMiddle _ _ _ _ = (refl, λ p. first_of (simp row_laws, search rules), λ p h. first_of (assumption, grind (arith, sort_laws)))
+lawful_at (n.TemplateRest c) _ _ _ _ _ = (refl, λ p. refl, λ p h. h)
+lawful_at (n.Elements c) k.RightBracket _ _ _ _ = (refl, λ p. refl, λ p h. h)
+lawful_at (n.Elements c) k.Comma _ _ _ _ = (refl, λ p. told_next _ _ ∙ simp made_laws, λ p h. fits_next _ _ _ ∙ (simp sort_laws) ∙ h)
+lawful_at (n.Elements c) _ _ _ _ _ = (refl, λ p. first_of (simp row_laws, search rules), λ p h. first_of (assumption, grind (arith, sort_laws)))
+lawful_at (n.MoreElements c) k.Comma _ _ _ _ = (refl, λ p. first_of (simp row_laws, search rules), λ p h. first_of (assumption, grind (arith, sort_laws)))
+lawful_at (n.MoreElements c) _ _ _ _ _ = (refl, λ p. refl, λ p h. h)
+lawful_at (n.Props c) k.RightBrace _ _ _ _ = (refl, λ p. first_of (simp row_laws, search rules), λ p h. first_of (assumption, grind (arith, sort_laws)))
+lawful_at (n.Props c) _ _ _ _ _ = (refl, λ p. first_of (simp row_laws, search rules), λ p h. first_of (assumption, grind (arith, sort_laws)))
+lawful_at (n.MoreProps c) k.Comma _ _ _ _ = (refl, λ p. first_of (simp row_laws, search rules), λ p h. first_of (assumption, grind (arith, sort_laws)))
+lawful_at (n.MoreProps c) _ _ _ _ _ = (refl, λ p. refl, λ p h. h)
+lawful_at n.ShorthandEnd k.Assign _ _ _ _ = (refl, λ p. first_of (simp row_laws, search rules), λ p h. first_of (assumption, grind (arith, sort_laws)))
+lawful_at n.ShorthandEnd _ _ _ _ _ = (refl, λ p. refl, λ p h. h)
+lawful_at (n.KeyRest c) k.Colon _ _ _ _ = (refl, λ p. first_of (simp row_laws, search rules), λ p h. first_of (assumption, grind (arith, sort_laws)))
+lawful_at (n.KeyRest c) k.LeftParen _ _ _ _ = (refl, λ p. first_of (simp row_laws, search rules), λ p h. first_of (assumption, grind (arith, sort_laws)))
+lawful_at (n.KeyRest c) _ _ _ _ _ = (refl, λ p. refl, λ p h. h)
+lawful_at (n.Key c) k.Text _ _ _ _ = (refl, λ p. told_out _ ∙ simp made_laws, λ p h. fits_out _ _ ∙ (simp sort_laws) ∙ h)
+lawful_at (n.Key c) _ _ _ _ _ = (refl, λ p. told_out _ ∙ simp made_laws, λ p h. fits_out _ _ ∙ (simp sort_laws) ∙ h)
 lawful_at n.OwnName one _ _ _ _ =
-    lawful_if n.OwnName (is_name one) _ _ (refl, λ p. first_of (simp row_laws, search rules)) (refl, λ p. refl)
-lawful_at n.Params _ _ _ _ _ = (refl, λ p. first_of (simp row_laws, search rules))
-lawful_at n.Parameters k.RightParen _ _ _ _ = (refl, λ p. first_of (simp row_laws, search rules))
-lawful_at n.Parameters _ _ _ _ _ = (refl, λ p. first_of (simp row_laws, search rules))
-lawful_at n.MoreParameters k.Comma _ _ _ _ = (refl, λ p. first_of (simp row_laws, search rules))
-lawful_at n.MoreParameters _ _ _ _ _ = (refl, λ p. refl)
-lawful_at n.ParameterEnd k.Assign _ _ _ _ = (refl, λ p. first_of (simp row_laws, search rules))
-lawful_at n.ParameterEnd _ _ _ _ _ = (refl, λ p. refl)
-lawful_at (n.Body generator) _ _ _ _ _ = (refl, λ p. told_out _ ∙ simp made_laws)
+    lawful_if n.OwnName (is_name one) _ _ (refl, λ p. first_of (simp row_laws, search rules), λ p h. first_of (assumption, grind (arith, sort_laws))) (refl, λ p. refl, λ p h. h)
+lawful_at n.Params _ _ _ _ _ = (refl, λ p. first_of (simp row_laws, search rules), λ p h. first_of (assumption, grind (arith, sort_laws)))
+lawful_at n.Parameters k.RightParen _ _ _ _ = (refl, λ p. first_of (simp row_laws, search rules), λ p h. first_of (assumption, grind (arith, sort_laws)))
+lawful_at n.Parameters _ _ _ _ _ = (refl, λ p. first_of (simp row_laws, search rules), λ p h. first_of (assumption, grind (arith, sort_laws)))
+lawful_at n.MoreParameters k.Comma _ _ _ _ = (refl, λ p. first_of (simp row_laws, search rules), λ p h. first_of (assumption, grind (arith, sort_laws)))
+lawful_at n.MoreParameters _ _ _ _ _ = (refl, λ p. refl, λ p h. h)
+lawful_at n.ParameterEnd k.Assign _ _ _ _ = (refl, λ p. first_of (simp row_laws, search rules), λ p h. first_of (assumption, grind (arith, sort_laws)))
+lawful_at n.ParameterEnd _ _ _ _ _ = (refl, λ p. refl, λ p h. h)
+lawful_at (n.Body generator) _ _ _ _ _ = (refl, λ p. told_out _ ∙ simp made_laws, λ p h. fits_out _ _ ∙ (simp sort_laws) ∙ h)
 lawful_at (n.Statement c) one newline two newline' arrow =
     let l = looked one newline two newline' arrow in
-    lawful_if (n.Statement c) (is_async l) _ _ (refl, λ p. first_of (simp row_laws, search rules))
-    (lawful_if (n.Statement c) (is_name one && is_colon two) _ _ (refl, λ p. told_out _ ∙ simp made_laws)
+    lawful_if (n.Statement c) (is_async l) _ _ (refl, λ p. first_of (simp row_laws, search rules), λ p h. first_of (assumption, grind (arith, sort_laws)))
+    (lawful_if (n.Statement c) (is_name one && is_colon two) _ _ (refl, λ p. told_out _ ∙ simp made_laws, λ p h. fits_out _ _ ∙ (simp sort_laws) ∙ h)
     (statement_lawful c l one))
 lawful_at (n.Head c) one newline two newline' arrow = head_lawful c (looked one newline two newline' arrow) one
 lawful_at (n.Operation loosest c) one newline two newline' arrow =
@@ -340,11 +345,11 @@ lawful_at (n.Rests loosest tightest c) one newline two newline' arrow =
     rests_lawful loosest tightest c (looked one newline two newline' arrow)
 lawful_at (n.Primary c) one newline two newline' arrow =
     let l = looked one newline two newline' arrow in
-    lawful_if (n.Primary c) (is_async l) _ _ (refl, λ p. first_of (simp row_laws, search rules))
+    lawful_if (n.Primary c) (is_async l) _ _ (refl, λ p. first_of (simp row_laws, search rules), λ p h. first_of (assumption, grind (arith, sort_laws)))
     (primary_lawful c l one)
 lawful_at (n.Prop c) one newline two newline' arrow =
     let l = looked one newline two newline' arrow in
-    lawful_if (n.Prop c) (is_async l) _ _ (refl, λ p. first_of (simp row_laws, search rules)) (prop_lawful c l one)
+    lawful_if (n.Prop c) (is_async l) _ _ (refl, λ p. first_of (simp row_laws, search rules), λ p h. first_of (assumption, grind (arith, sort_laws))) (prop_lawful c l one)
 
 pub rows_lawful : (m : Nonterminal) (l : Look) → Lawful m (row m l)
 rows_lawful m l = lawful_at m l.one l.one_newline l.two l.two_newline l.arrow
@@ -362,3 +367,9 @@ tells_tree = tells_by (λ m l. (rows_lawful m l).1)
 pub script_tells : (ts rest : List Terminal) (tree : Tree) → reads n.Script ts ≡ Got tree rest
     → tells n.Script ts ≡ Got (events_of tree) rest
 script_tells ts rest tree h = tells_tree n.Script ts ∙ ap (tell_reading n.Script) h
+
+-- What is read as a script is one.
+pub script_fits : (ts rest : List Terminal) (tree : Tree) → reads n.Script ts ≡ Got tree rest
+    → fits_of tree script ≡ true
+script_fits ts rest tree h =
+    sym (ap (holds (sorted_value n.Script)) h) ∙ sorts_by (λ m l. (rows_lawful m l).2) n.Script ts

@@ -7,4 +7,4 @@
 
 mod readings;
 
-pub use readings::{reading_ends, reading_tells};
+pub use readings::{reading_ends, reading_fits, reading_tells};

@@ -3,3 +3,4 @@ pub mod EarlyErrors
 pub mod Least
 pub mod Refusals
 pub mod Shown
+pub mod Kinds

@@ -1,6 +1,11 @@
+ghost use Rattle.std.specs.Prelude.{◌≡◌, ◌≤◌, length};
+ghost use Rattle.hz_tree.specs.sources.Kinds.{name_of_limit};
+
+use std::fmt;
+
 /// The limits of a source. The order is that of this list; of several that are passed at one place the first one in it
 /// is told.
-#[derive(Clone, Copy, Debug, PartialEq, Eq)]
+#[derive(Clone, Copy, Debug, PartialEq, Eq, PartialOrd, Ord)]
 pub enum LimitKind {
     /// A statement or an expression is within more than 399 others.
     Nesting,
@@ -10,4 +15,28 @@ pub enum LimitKind {
 
     /// A call or a `new` has 255 arguments.
     Arguments,
+}
+
+impl LimitKind {
+    /// The kind's name, as it is printed. It takes no memory.
+    pub fn name(&self) -> &'static str
+        ensures name { result.now ≡ name_of_limit self.now }
+        ensures short { length result.now ≤ 18 }
+    {
+        match self {
+            LimitKind::Nesting => "Nesting",
+            LimitKind::Parameters => "Parameters",
+            LimitKind::Arguments => "Arguments",
+        }
+    }
+}
+
+impl fmt::Display for LimitKind {
+    ghost use Rattle.std.specs.Prelude.{Some};
+
+    ghost output = { λ kind. Some (name_of_limit kind) };
+
+    fn fmt<W: fmt::Write>(&self, f: &mut fmt::Formatter<W>) -> fmt::Result {
+        f.write_str(self.name())
+    }
 }

@@ -1,4 +1,7 @@
+use crate::early::EarlyKind;
+use crate::limit::LimitKind;
 use crate::outside::OutsideKind;
+use crate::profile::ProfileKind;
 use std::fmt;
 
 /// Why a source is refused.
@@ -19,6 +22,15 @@ pub enum Refusal {
     /// It does not say that it is strict code.
     Sloppy,
 
+    /// The first early error of the script (ECMA-262, 16.1.1), called or not, stands at this place.
+    Early(EarlyKind, usize),
+
+    /// The first place at which the script is outside the profile.
+    Profile(ProfileKind, usize),
+
+    /// The first place at which the script passes a limit.
+    Limit(LimitKind, usize),
+
     /// It goes past what is built so far. This is the place, in bytes, up to which it does not.
     NotYet(usize),
 }
@@ -36,6 +48,9 @@ impl fmt::Display for Refusal {
             Refusal::Syntax(at) => write!(f, "Syntax at {}", at),
             Refusal::Outside(kind, at) => write!(f, "Outside({}) at {}", kind, at),
             Refusal::Sloppy => write!(f, "Sloppy"),
+            Refusal::Early(kind, at) => write!(f, "Early({}) at {}", kind, at),
+            Refusal::Profile(kind, at) => write!(f, "Profile({}) at {}", kind, at),
+            Refusal::Limit(kind, at) => write!(f, "Limit({}) at {}", kind, at),
             Refusal::NotYet(at) => write!(f, "NotYet at {}", at),
         }
     }

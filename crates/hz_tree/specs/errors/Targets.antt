@@ -12,7 +12,6 @@ use Rattle.hz_tree.specs.declared.tree.Tree.{Tree, fold-Tree}
 use Rattle.hz_tree.specs.declared.tree.Tree.TheOpen.{Tree-F}
 use Rattle.hz_tree.specs.tokens.Text.{Text}
 use Rattle.hz_tree.specs.grammar.Operators.{takes_pattern}
-use Rattle.hz_tree.specs.sources.Refusals.{is_use_strict}
 use Rattle.hz_tree.specs.trees.Places.{node, start}
 use Rattle.hz_tree.specs.errors.Declarations.{is_eval}
 use Rattle.hz_tree.specs.errors.Scopes.{EarlyError}
@@ -109,6 +108,10 @@ abbrev pub is_proto : Text → Bool
 is_proto name = bytes_eq (codes "__proto__") name
 
 -- ---- directives (11.2.1)
+
+-- in either quotes, and without escapes
+abbrev pub is_use_strict : Text → Bool
+is_use_strict written = bytes_eq (codes "\"use strict\"") written || bytes_eq (codes "'use strict'") written
 
 pub record Directive : Type 0 where
   pub at : ℕ

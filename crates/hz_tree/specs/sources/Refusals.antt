@@ -1,51 +1,26 @@
 -- Why a source is refused, and what its functions are.
 use Rattle.std.specs.Prelude.{ℕ, Bool, false, not, ◌||◌, if◌then◌else◌, ◌==◌, nat_lt, List, [], ◌∷◌, length, Option}
-use Rattle.std.specs.Prelude.{Some, None, codes}
-use Rattle.std.specs.Str.{bytes_eq}
+use Rattle.std.specs.Prelude.{Some, None}
+use Rattle.std.specs.List.{list_any}
 use Rattle.std.specs.Str.Lossy.{utf8_valid_len}
 use Rattle.hz_tree.specs.declared.outside.BadKind.{BadKind}
 use Rattle.hz_tree.specs.declared.outside.BadKind.TheVariants as bad
 use Rattle.hz_tree.specs.declared.nonterminal.Nonterminal.TheVariants as n
 use Rattle.hz_tree.specs.declared.refusal.Refusal.{Refusal}
 use Rattle.hz_tree.specs.declared.refusal.Refusal.TheVariants as refusal
-use Rattle.hz_tree.specs.declared.tree.Tree.{Tree, out-Tree}
-use Rattle.hz_tree.specs.declared.tree.Tree.TheOpen.{Tree-F}
+use Rattle.hz_tree.specs.declared.tree.Tree.{Tree}
 use Rattle.hz_tree.specs.tokens.Text.{Text}
 use Rattle.hz_tree.specs.grammar.Look.{terminals}
 use Rattle.hz_tree.specs.reading.Reading.{Reading, Got, Stuck, Deeper, reads, place_ahead}
 use Rattle.hz_tree.specs.declared.index.FunctionInfo.{FunctionInfo}
 use Rattle.hz_tree.specs.trees.Functions.{functions_of}
-
--- ---- directives (ECMA-262, 11.2.1)
-
-abbrev pub text_in : Tree-F Tree → Option Text
-text_in (Tree-F.Text at written octal) = Some written
-text_in _ = None
-
-abbrev pub directive_in : Tree-F Tree → Option Text
-directive_in (Tree-F.Expression at value) = text_in (out-Tree value)
-directive_in _ = None
-
--- a statement that is a string literal alone, as it is written
-abbrev pub directive : Tree → Option Text
-directive tree = directive_in (out-Tree tree)
-
--- in either quotes, and without escapes
-abbrev pub is_use_strict : Text → Bool
-is_use_strict written = bytes_eq (codes "\"use strict\"") written || bytes_eq (codes "'use strict'") written
-
--- one of the directives in front of the items says so
-abbrev pub says_strict : List Tree → Bool
-says_strict [] = false
-says_strict (first ∷ more) =
-    elim (directive first) [ None ↦ false | Some written ↦ is_use_strict written || says_strict more ]
-
-abbrev pub script_items : Tree-F Tree → List Tree
-script_items (Tree-F.Script at items) = items
-script_items _ = []
-
-abbrev pub is_strict : Tree → Bool
-is_strict script = says_strict (script_items (out-Tree script))
+use Rattle.hz_tree.specs.errors.Limits.{LimitError, limit_errors}
+use Rattle.hz_tree.specs.errors.Scopes.{EarlyError}
+use Rattle.hz_tree.specs.errors.Sources.{early_errors, profile_errors}
+use Rattle.hz_tree.specs.errors.Targets.{ProfileError, is_use_strict, meaning_of}
+use Rattle.hz_tree.specs.sources.EarlyErrors.{order_of_early}
+use Rattle.hz_tree.specs.sources.Kinds.{order_of_profile, order_of_limit}
+use Rattle.hz_tree.specs.sources.Least.{least_of}
 
 -- ---- refusals
 
@@ -57,8 +32,27 @@ abbrev pub refusal_at : BadKind → (place : ℕ) → Refusal
 refusal_at bad.Syntax place = refusal.Syntax place
 refusal_at (bad.Outside kind) place = refusal.Outside kind place
 
+-- one of the directives in front of the script says so (11.2.1)
+abbrev pub is_strict : Tree → Bool
+is_strict script = list_any (λ d. is_use_strict d.written) (meaning_of script).directives
+
+-- the first of these, as far as they are there
+abbrev pub first_refusal : Option EarlyError → Option ProfileError → Option LimitError → Option Refusal
+first_refusal (Some error) profile limit = Some (refusal.Early error.0 error.1)
+first_refusal None (Some error) limit = Some (refusal.Profile error.0 error.1)
+first_refusal None None (Some error) = Some (refusal.Limit error.0 error.1)
+first_refusal None None None = None
+
+-- what stands against a script that the grammar reads
+abbrev pub refusal_in : (strict : Bool) → Tree → Option Refusal
+refusal_in strict script =
+    if strict || is_strict script then
+    first_refusal (least_of order_of_early (early_errors script)) (least_of order_of_profile (profile_errors script))
+    (least_of order_of_limit (limit_errors script))
+    else Some refusal.Sloppy
+
 abbrev pub refusal_by : (strict : Bool) → Reading Tree → Option Refusal
-refusal_by strict (Got tree ts) = if strict || is_strict tree then None else Some refusal.Sloppy
+refusal_by strict (Got tree ts) = refusal_in strict tree
 refusal_by strict (Stuck cause ts) = Some (refusal_at cause (place_ahead ts))
 refusal_by strict Deeper = None
 

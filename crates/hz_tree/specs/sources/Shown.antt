@@ -4,6 +4,8 @@ use Rattle.hz_tree.specs.declared.outside.OutsideKind.{OutsideKind}
 use Rattle.hz_tree.specs.declared.outside.OutsideKind.TheVariants as outside
 use Rattle.hz_tree.specs.declared.refusal.Refusal.{Refusal}
 use Rattle.hz_tree.specs.declared.refusal.Refusal.TheVariants as refusal
+use Rattle.hz_tree.specs.sources.EarlyErrors.{name_of_early}
+use Rattle.hz_tree.specs.sources.Kinds.{name_of_profile, name_of_limit}
 use Rattle.hz_tree.specs.tokens.Text.{Text}
 
 abbrev pub name_of_kind : OutsideKind → Text
@@ -30,4 +32,8 @@ text_of_refusal (refusal.NotUtf8 at) = codes "NotUtf8 at " ++ decimal at
 text_of_refusal (refusal.Syntax at) = codes "Syntax at " ++ decimal at
 text_of_refusal (refusal.Outside kind at) = codes "Outside(" ++ (name_of_kind kind ++ (codes ") at " ++ decimal at))
 text_of_refusal refusal.Sloppy = codes "Sloppy"
+text_of_refusal (refusal.Early kind at) = codes "Early(" ++ (name_of_early kind ++ (codes ") at " ++ decimal at))
+text_of_refusal (refusal.Profile kind at) =
+    codes "Profile(" ++ (name_of_profile kind ++ (codes ") at " ++ decimal at))
+text_of_refusal (refusal.Limit kind at) = codes "Limit(" ++ (name_of_limit kind ++ (codes ") at " ++ decimal at))
 text_of_refusal (refusal.NotYet at) = codes "NotYet at " ++ decimal at

@@ -1,4 +1,4 @@
--- What string literals mean, in UTF-16 units (ECMA-262, 12.9.4.2).
+-- What string literals, templates and names mean, in UTF-16 units (ECMA-262, 12.9.4.2, 12.9.6, 12.7.1).
 use Rattle.std.specs.Prelude.{ℕ, zero, suc, ◌+◌, ◌*◌, ◌-◌, ◌/◌, ◌%◌, Bool, ◌&&◌, ◌||◌, if◌then◌else◌, ◌==◌, nat_lt}
 use Rattle.std.specs.Prelude.{List}
 use Rattle.std.specs.Prelude.{[], ◌∷◌, ◌++◌, length, take, drop, slice_index}
@@ -54,11 +54,33 @@ abbrev pub part_meant : Text → Meant
 part_meant z = if slice_index z 0 == 92 then escape_meant z else meant (units_of (code_point z)) (char_len z)
 
 -- the parts one behind the other; `left` counts the bytes of the last one that are still to be passed
-abbrev pub meant_from : ℕ → Text → List ℕ
-meant_from left [] = []
-meant_from (suc left) (b ∷ z) = meant_from left z
-meant_from zero (b ∷ z) = let p = part_meant (b ∷ z) in p.units ++ meant_from (p.len - 1) z
+abbrev pub meant_from : (part : Text → Meant) → (left : ℕ) → Text → List ℕ
+meant_from part left [] = []
+meant_from part (suc left) (b ∷ z) = meant_from part left z
+meant_from part zero (b ∷ z) = let p = part (b ∷ z) in p.units ++ meant_from part (p.len - 1) z
 
--- the value of a literal with its quotes
+-- the text without its first and its last bytes, so many of them
+abbrev pub between : (first last : ℕ) → Text → Text
+between first last written = take (length written - (first + last)) (drop first written)
+
+-- the value of a literal with its quotes (SV, 12.9.4.2)
 abbrev pub text_value : Text → List ℕ
-text_value written = meant_from 0 (take (length written - 2) (drop 1 written))
+text_value written = meant_from part_meant 0 (between 1 1 written)
+
+-- ---- templates (12.9.6)
+
+-- TV of a character or an escape: U+000D, and U+000D U+000A, stand for U+000A
+abbrev pub template_meant : Text → Meant
+template_meant z =
+    if slice_index z 0 == 13 then meant (10 ∷ []) (if slice_index z 1 == 10 then 2 else 1) else part_meant z
+
+-- TV of a part as it is written: from a backquote or `}` to a backquote (96) or `${`
+abbrev pub template_value : Text → List ℕ
+template_value written =
+    meant_from template_meant 0
+    (between 1 (if slice_index written (length written - 1) == 96 then 1 else 2) written)
+
+-- ---- names (12.7.1), which have no escapes here
+
+abbrev pub name_value : Text → List ℕ
+name_value name = meant_from (λ z. meant (units_of (code_point z)) (char_len z)) 0 name
