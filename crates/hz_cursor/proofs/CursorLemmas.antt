@@ -12,11 +12,12 @@ use Rattle.hz_tree.specs.grammar.Classes.{class_of, is_paren, fits}
 use Rattle.hz_tree.specs.grammar.Look.{arrow_behind, begins_parameters, Terminal, look, stuck, terminals}
 use Rattle.hz_tree.specs.grammar.Look.{terminals_from}
 use Rattle.hz_tree.specs.declared.look.Look.{Look}
-use Rattle.hz_tree.specs.reading.Reading.{takes, Got, Stuck}
+use Rattle.hz_tree.specs.reading.Reading.{takes, has_octal, Got, Stuck}
 use Rattle.hz_tree.specs.sources.Refusals.{max_length}
 use Rattle.hz_tree.specs.tokens.Text.{Text}
 use Rattle.hz_tree.specs.tokens.Tokens.{Lexeme, tokens}
 use Rattle.hz_scan.specs.Order.{end_of}
+use Rattle.hz_scan.specs.State.{Lies}
 use Rattle.hz_scan.proofs.LookLemmas.{has_arrow, one_seen, two_seen}
 use Rattle.hz_cursor.specs.declared.stored.Stored.{Stored}
 use Rattle.hz_cursor.specs.Arrows.{arrows}
@@ -105,6 +106,8 @@ pub record Ahead (one : Stored) (end : ℕ) (long : List ℕ) (ts : List Termina
   pub is : ts ≡ first ∷ rest
   pub class_is : first.class ≡ one.class
   pub place_is : first.token.at ≡ end + gap_of one long
+  pub octal_is : has_octal first.token.kind ≡ one.octal
+  pub len_is : length first.token.text ≡ len_of one long
   pub end_is : first.behind ≡ end
 
 pub record Passed (source : Text) (taken end : ℕ) (kept : List Stored) (one : Stored) (long : List ℕ)
@@ -115,6 +118,7 @@ pub record Passed (source : Text) (taken end : ℕ) (kept : List Stored) (one : 
       (flags_behind one flags)
       (drop (taken + 1) (tokens source))
   pub inside : end + (gap_of one long + len_of one long) ≤ length source
+  pub lies : Lies source end ahead.first.token
   pub within : taken + 1 ≤ length kept
 
 module _ {source : Text} {taken end : ℕ} {kept : List Stored} {long : List ℕ} {flags : List Bool} {seen : Look}
@@ -162,6 +166,8 @@ module _ {source : Text} {taken end : ℕ} {kept : List Stored} {long : List ℕ
               is = ap (terminals_from end) is;
               class_is = sym class_is;
               place_is = rw gap_is (omega (arith, after));
+              octal_is = sym (ap (λ x. x.octal) kept_is);
+              len_is = sym len_is;
               end_is = refl;
             };
             rest_is = rw (end_is, tokens_are) refl;
@@ -172,6 +178,7 @@ module _ {source : Text} {taken end : ℕ} {kept : List Stored} {long : List ℕ
               order = keeps.order.1;
             });
             inside = rw end_is keeps.order.0.inside;
+            lies = keeps.order.0;
             within = let inside = slice_get_within kept taken one h in omega (arith, inside);
           }
 

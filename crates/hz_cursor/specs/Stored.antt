@@ -4,6 +4,7 @@ use Rattle.std.specs.List.{slice_get}
 use Rattle.hz_tree.specs.declared.class.Class.{Class}
 use Rattle.hz_tree.specs.declared.look.Look.{Look}
 use Rattle.hz_tree.specs.grammar.Classes.{class_of, is_paren}
+use Rattle.hz_tree.specs.reading.Reading.{has_octal}
 use Rattle.hz_tree.specs.tokens.Tokens.{Lexeme}
 use Rattle.hz_scan.specs.declared.look.Seen.{Seen}
 use Rattle.hz_scan.specs.Look.{look_at}
@@ -39,6 +40,7 @@ abbrev pub stored_as : Class → (end : ℕ) → Lexeme → Stored
 stored_as c end t = record {
   class = c;
   newline = t.newline;
+  octal = has_octal t.kind;
   gap = shortened (t.at - end);
   len =
       shortened (length t.text);

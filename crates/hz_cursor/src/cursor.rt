@@ -6,7 +6,7 @@ ghost use Rattle.hz_cursor.specs.Stored.{Taken};
 
 use crate::arrows::flags_of;
 use crate::reading::read_tokens;
-use crate::store::{lengthen, lengthened};
+use crate::store::{lengthen, lengthened, lengthened_behind};
 use crate::stored::Stored;
 use hz_list::Memory;
 use hz_scan::{Seen, look_at};
@@ -16,7 +16,7 @@ use std::marker::Model;
 
 /// The terminals of a source that are left, of which the next two can be seen.
 ///
-/// It takes four bytes for each token, one for each parenthesis, and eight for each token and each gap of more than
+/// It takes five bytes for each token, one for each parenthesis, and eight for each token and each gap of more than
 /// 254 bytes. Each token is scanned once.
 #[derive(Drop)]
 pub struct Cursor<'a> {
@@ -55,7 +55,7 @@ impl<'a> Model for Cursor<'a> {
 impl<'a> Cursor<'a> {
     ghost use Rattle.std.specs.Prelude.{◌≡◌, ◌≤◌, IfOk, length, drop};
     ghost use Rattle.hz_tree.specs.grammar.Look.{look, terminals};
-    ghost use Rattle.hz_tree.specs.reading.Reading.{place_ahead, end_behind};
+    ghost use Rattle.hz_tree.specs.reading.Reading.{place_ahead, text_ahead, octal_ahead, end_behind};
     ghost use Rattle.hz_tree.specs.sources.Refusals.{max_length};
     ghost use Rattle.hz_cursor.specs.Cursor.{Eats};
 
@@ -109,6 +109,30 @@ impl<'a> Cursor<'a> {
         match next(&self.tokens, self.taken) {
             Some(one) => self.end + lengthened(one.gap, &self.long),
             None => 0,
+        }
+    }
+
+    /// The text of the next token, or none where none is left.
+    pub fn text(&self) -> &'a [u8]
+        ensures { result.now ≡ text_ahead self.now }
+    {
+        match next(&self.tokens, self.taken) {
+            Some(one) => {
+                let at = self.end + lengthened(one.gap, &self.long);
+                let len = lengthened_behind(one.gap, one.len, &self.long);
+                &self.source[at..at + len]
+            }
+            None => &[],
+        }
+    }
+
+    /// Whether the next token is a string literal with a legacy octal escape.
+    pub fn octal(&self) -> bool
+        ensures { result ≡ octal_ahead self.now }
+    {
+        match next(&self.tokens, self.taken) {
+            Some(one) => one.octal,
+            None => false,
         }
     }
 

@@ -1,9 +1,10 @@
-ghost use Rattle.std.specs.Prelude.{◌≡◌, ◌≤◌, ◌+◌, ◌++◌, OnOk, IfOk, reverse};
-ghost use Rattle.hz_cursor.specs.Stored.{shortened, long_of, full, past_full};
+ghost use Rattle.std.specs.Prelude.{◌≡◌, ◌≤◌, ◌+◌, ◌++◌, OnOk, IfOk, drop, reverse};
+ghost use Rattle.hz_tree.specs.reading.Reading.{has_octal as octal_in};
+ghost use Rattle.hz_cursor.specs.Stored.{shortened, long_of, full, past_full, first_or_zero};
 
 use crate::stored::Stored;
 use hz_list::Memory;
-use hz_tree::{Class, Token};
+use hz_tree::{Class, Token, TokenKind};
 use std::alloc::Global;
 use std::marker::Model;
 
@@ -54,6 +55,7 @@ impl Store {
         self.tokens.push(Stored {
             class,
             newline: token.newline,
+            octal: has_octal(token.kind),
             gap,
             len,
         })?;
@@ -74,6 +76,13 @@ impl Store {
         long.reverse();
         (tokens, long)
     }
+}
+
+/// Whether it is a string literal with a legacy octal escape.
+fn has_octal(kind: TokenKind) -> bool
+    ensures { result ≡ octal_in kind }
+{
+    matches!(kind, TokenKind::Text { octal: true })
 }
 
 /// A number in a byte, or 255, and then it is kept with the long ones.
@@ -109,5 +118,32 @@ pub fn lengthen(short: u8, long: &mut Vec<usize>) -> usize
         usize::from(short)
     } else {
         long.pop().unwrap_or(0)
+    }
+}
+
+/// The number that is stored so behind that of `before`, where the first long one comes last.
+pub fn lengthened_behind(before: u8, short: u8, long: &Vec<usize>) -> usize
+    ensures { result ≡ full short (past_full before (reverse long.now.items)) }
+{
+    if short < 255 {
+        return usize::from(short);
+    }
+    if before < 255 {
+        long.last().copied().unwrap_or(0)
+    } else {
+        second_last(long)
+    }
+}
+
+fn second_last(long: &Vec<usize>) -> usize
+    ensures { result ≡ first_or_zero (drop 1 (reverse long.now.items)) }
+{
+    let count = long.len();
+    if count < 2 {
+        return 0;
+    }
+    match long.get(count - 2) {
+        Some(number) => *number,
+        None => 0,
     }
 }

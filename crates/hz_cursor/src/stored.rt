@@ -3,7 +3,7 @@ ghost use Rattle.std.specs.Prelude.{◌≡◌};
 use hz_scan::Seen;
 use hz_tree::Class;
 
-/// A token without its text, as it is stored: in four bytes.
+/// A token without its text, as it is stored: in five bytes.
 #[derive(Clone, Copy, Debug)]
 pub struct Stored {
     /// What the grammar asks of it.
@@ -11,6 +11,9 @@ pub struct Stored {
 
     /// Whether a line ends before it.
     pub newline: bool,
+
+    /// Whether it is a string literal with a legacy octal escape.
+    pub octal: bool,
 
     /// How many bytes stand between it and the token before it, or 255 where that number is kept apart.
     pub gap: u8,

@@ -8,3 +8,4 @@ pub mod WordLemmas
 pub mod SpellingLemmas
 pub mod OrderLemmas
 pub mod LookLemmas
+pub mod ValueLemmas

@@ -3,3 +3,4 @@ pub mod Order
 pub mod Reach
 pub mod Spelling
 pub mod State
+pub mod Values

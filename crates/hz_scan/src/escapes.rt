@@ -15,7 +15,7 @@ fn is_hex_at(z: &[u8], at: usize) -> bool
     byte(z, at).is_ascii_hexdigit()
 }
 
-fn hex_digits(z: &[u8]) -> usize
+pub fn hex_digits(z: &[u8]) -> usize
     ensures value { result ≡ prefix_len is_ascii_hexdigit z.now }
     ensures within { result ≤ length z.now }
 {

@@ -5,6 +5,7 @@
 // hz_tree's `specs/tokens/Tokens.antt` has behind the place; it takes no memory. `Tokens` is the list of the source's
 // tokens that are left, with memory for the braces that are open. The text of a token is the source's slice at its
 // place. `laws.rt` says that tokens lie one behind the other, and what comes where a scan starts in the middle.
+// `has_value` compares the value of a string literal with bytes, and takes no memory either.
 #![tactic(auto)]
 
 mod braces;
@@ -26,6 +27,7 @@ mod scanner;
 mod signs;
 mod spaces;
 mod tokens;
+mod values;
 mod words;
 
 pub use class::class_of;
@@ -35,3 +37,4 @@ pub use list::list_tokens;
 pub use look::{Seen, look_at};
 pub use scanner::Scanner;
 pub use tokens::Tokens;
+pub use values::has_value;
