@@ -15,4 +15,5 @@ mod set;
 
 pub use event::ScopeEvent;
 pub use laws::least_of_events;
+pub use names::Names;
 pub use set::EarlySet;

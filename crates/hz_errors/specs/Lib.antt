@@ -1,0 +1,10 @@
+pub mod Declarations
+pub mod Found
+pub mod Labels
+pub mod OpenNames
+pub mod Receivers
+pub mod Levels
+pub mod Operands
+pub mod Errors
+pub mod Runs
+pub mod OperandEntries
