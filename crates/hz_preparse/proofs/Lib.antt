@@ -1,9 +1,3 @@
-pub mod Readings
-pub mod TextRows
-pub mod NoText
-pub mod TextExpression
-pub mod PrologueLaw
-pub mod Hearing
 pub mod DraftLemmas
 pub mod Steps
 pub mod Whole

@@ -8,7 +8,6 @@ use Rattle.hz_tree.specs.declared.signal.Signal.{Signal}
 use Rattle.hz_tree.specs.declared.symbol.Symbol.{Symbol}
 use Rattle.hz_tree.specs.declared.symbol.Symbol.TheVariants as s
 use Rattle.hz_tree.specs.grammar.Classes.{fits}
-use Rattle.hz_tree.specs.trees.Drafts.{Draft, happens}
 use Rattle.hz_tree.specs.grammar.Table.{Step, pushes, fails, step}
 use Rattle.hz_tree.specs.grammar.Look.{Terminal, look, stuck}
 use Rattle.hz_tree.specs.grammar.Signals.{Event, event}
@@ -19,13 +18,14 @@ use Rattle.hz_laws.proofs.StackLaws.{ends_pushes, ends_fails, ends_take, ends_ot
 use Rattle.hz_laws.proofs.MoveLaws.{work_pushes, work_take, work_tell}
 use Rattle.hz_rows.specs.declared.stop.Stop.TheVariants as stop
 use Rattle.hz_rows.specs.Pushed.{Pushed}
+use Rattle.hz_preparse.specs.Heard.{Heard, happens}
 use Rattle.hz_preparse.specs.Outcome.{outcome, refused}
 use Rattle.hz_preparse.specs.declared.fault.PreFault.TheVariants.{Refused, Memory}
 use Rattle.hz_preparse.specs.Step.{Done, TakesToken, Expands, Goes, StepsPast}
 
 -- ---- tokens
 
-pub take_goes : (wanted : Class) (xs : List Symbol) (ts new : List Terminal) (x : Terminal) (d : Draft)
+pub take_goes : (wanted : Class) (xs : List Symbol) (ts new : List Terminal) (x : Terminal) (d : Heard)
     → takes wanted ts ≡ Got x new
     → Goes (s.Take wanted ∷ xs) ts d xs new d
 take_goes wanted xs [] new x d h = cc
@@ -40,7 +40,7 @@ take_goes wanted xs (y ∷ ts) new x d h =
       | false ↦ λ f e. cc
     ] refl h
 
-pub take_refuses : (wanted : Class) (xs : List Symbol) (ts : List Terminal) (cause : BadKind) (d : Draft)
+pub take_refuses : (wanted : Class) (xs : List Symbol) (ts : List Terminal) (cause : BadKind) (d : Heard)
     → takes wanted ts ≡ Stuck cause ts
     → outcome d (ends (s.Take wanted ∷ xs) ts) ≡ refused (refusal_at cause (place_ahead ts))
 take_refuses wanted xs [] cause d h = let e = ends_no_token wanted xs in ap (outcome d) (e ∙ ap (λ c. At c []) cc)
@@ -55,7 +55,7 @@ take_refuses wanted xs (y ∷ ts) cause d h =
 
 -- ---- nonterminals
 
-pub read_goes : (m : Nonterminal) (right xs new : List Symbol) (ts : List Terminal) (d : Draft) → step m (look ts)
+pub read_goes : (m : Nonterminal) (right xs new : List Symbol) (ts : List Terminal) (d : Heard) → step m (look ts)
     ≡ pushes right → new ≡ right ++ xs
     → Goes (s.Read m ∷ xs) ts d new ts d
 read_goes m right xs new ts d h e = record {
@@ -63,19 +63,19 @@ read_goes m right xs new ts d h e = record {
   less = work_pushes m right xs ts h ∙ ap (λ ys. suc (work ys ts)) (sym e);
 }
 
-pub read_refuses : (m : Nonterminal) (cause : BadKind) (xs : List Symbol) (ts : List Terminal) (d : Draft)
+pub read_refuses : (m : Nonterminal) (cause : BadKind) (xs : List Symbol) (ts : List Terminal) (d : Heard)
     → step m (look ts) ≡ fails cause
     → outcome d (ends (s.Read m ∷ xs) ts) ≡ refused (refusal_at cause (place_ahead ts))
 read_refuses m cause xs ts d h = ap (outcome d) (ends_fails m cause xs ts h)
 
 -- ---- events
 
-happened : (d : Draft) (event : Event) (v : Verdict) → outcome d (before (event ∷ []) v) ≡ outcome (happens d event) v
+happened : (d : Heard) (event : Event) (v : Verdict) → outcome d (before (event ∷ []) v) ≡ outcome (happens d event) v
 happened d event (Through more rest) = refl
 happened d event (At cause ts) = refl
 happened d event Lost = refl
 
-tell_goes : (signal : Signal) (xs : List Symbol) (ts : List Terminal) (d new : Draft)
+tell_goes : (signal : Signal) (xs : List Symbol) (ts : List Terminal) (d new : Heard)
     → new ≡ happens d (event signal (told_ahead ts)) → Goes (s.Tell signal ∷ xs) ts d xs ts new
 tell_goes signal xs ts d new h = record {
   same = ap (λ e. outcome e (ends xs ts)) h ∙ sym (ap (outcome d) (ends_tell signal xs ts)
@@ -83,7 +83,7 @@ tell_goes signal xs ts d new h = record {
   less = work_tell signal xs ts;
 }
 
-pub tell_steps : (symbol : Symbol) (signal : Signal) (xs : List Symbol) (ts : List Terminal) (d new : Draft)
+pub tell_steps : (symbol : Symbol) (signal : Signal) (xs : List Symbol) (ts : List Terminal) (d new : Heard)
     → symbol ≡ s.Tell signal → new ≡ happens d (event signal (told_ahead ts)) → Goes (symbol ∷ xs) ts d xs ts new
 tell_steps symbol signal xs ts d new e h =
     subst (λ x. Goes (x ∷ xs) ts d xs ts new) (sym e) (tell_goes signal xs ts d new h)
@@ -102,7 +102,7 @@ pushed_refused (fails cause) found old new h = ap fails (sym h.0)
 
 -- ---- steps
 
-pub take_steps : (symbol : Symbol) (wanted : Class) (r : Done) (xs : List Symbol) (ts new : List Terminal) (d : Draft)
+pub take_steps : (symbol : Symbol) (wanted : Class) (r : Done) (xs : List Symbol) (ts new : List Terminal) (d : Heard)
     → symbol ≡ s.Take wanted
     → TakesToken wanted ts r new → StepsPast symbol xs ts d r xs new d
 take_steps symbol wanted r xs ts new d e h = subst (λ x. StepsPast x xs ts d r xs new d) (sym e) (go r h)
@@ -112,7 +112,7 @@ take_steps symbol wanted r xs ts new d e h = subst (λ x. StepsPast x xs ts d r 
     go (Err (Refused refusal)) h = take_refuses wanted xs ts h.0 d h.1.0 ∙ ap refused (sym h.1.1)
     go (Err Memory) h = tt
 
-pub read_steps : (symbol : Symbol) (m : Nonterminal) (r : Done) (xs new : List Symbol) (ts : List Terminal) (d : Draft)
+pub read_steps : (symbol : Symbol) (m : Nonterminal) (r : Done) (xs new : List Symbol) (ts : List Terminal) (d : Heard)
     → symbol ≡ s.Read m
     → Expands m ts xs r new → StepsPast symbol xs ts d r new ts d
 read_steps symbol m r xs new ts d e h = subst (λ x. StepsPast x xs ts d r new ts d) (sym e) (go r h)

@@ -1,26 +1,28 @@
 -- What comes of a whole source.
-use Rattle.std.proofs.Common.{◌≡◌, Bool, true, false, ◌||◌, if◌then◌else◌, nat_lt, ◌==◌, List, [], ◌∷◌, length, Some}
-use Rattle.std.proofs.Common.{None, Ok, Err, refl, ap, sym, ◌∙◌, arith, subst}
+use Rattle.std.proofs.Common.{◌≡◌, Bool, true, false, nat_lt, ◌==◌, List, [], ◌∷◌, length, Some}
+use Rattle.std.proofs.Common.{Err, refl, ap, sym, ◌∙◌, arith, subst}
 use Rattle.std.specs.Str.Lossy.{utf8_valid_len}
-use Rattle.hz_tree.specs.declared.index.FunctionInfo.{FunctionInfo}
 use Rattle.hz_tree.specs.declared.nonterminal.Nonterminal.TheVariants as n
 use Rattle.hz_tree.specs.declared.refusal.Refusal.{Refusal}
-use Rattle.hz_tree.specs.declared.refusal.Refusal.TheVariants as refusal
 use Rattle.hz_tree.specs.declared.symbol.Symbol.TheVariants as s
 use Rattle.hz_tree.specs.declared.tree.Tree.{Tree}
 use Rattle.hz_tree.specs.tokens.Text.{Text}
-use Rattle.hz_tree.specs.trees.Drafts.{Draft, built, begun}
+use Rattle.hz_tree.specs.trees.Drafts as drafts
 use Rattle.hz_tree.specs.trees.Events.{events_of}
 use Rattle.hz_tree.specs.grammar.Look.{Terminal, terminals}
+use Rattle.hz_tree.specs.grammar.Signals.{Event}
 use Rattle.hz_tree.specs.reading.Reading.{Reading, Got, Stuck, Deeper, reads, place_ahead}
 use Rattle.hz_tree.specs.sources.Refusals.{max_length, refusal_at, refusal_by, refusal_of, functions}
 use Rattle.hz_tree.specs.reading.Stack.{Verdict, Through, At, Lost, ends}
 use Rattle.hz_laws.proofs.Answers.{ends_script, stuck_refuses, through_functions}
+use Rattle.hz_laws.proofs.RowLaws.{script_fits}
+use Rattle.hz_errors.specs.Errors.{refusal_found}
+use Rattle.hz_errors.specs.Errors as errors
+use Rattle.hz_errors.proofs.ErrorsLaw.{refusal_same}
 use Rattle.hz_preparse.specs.declared.fault.PreFault.{PreFault}
 use Rattle.hz_preparse.specs.declared.fault.PreFault.TheVariants.{Refused, Memory}
+use Rattle.hz_preparse.specs.Heard.{Heard, begun, happens, after}
 use Rattle.hz_preparse.specs.Outcome.{Outcome, done, refused, outcome, Answers, IsText, Reads}
-use Rattle.hz_preparse.specs.Prologue.{prologue}
-use Rattle.hz_preparse.proofs.PrologueLaw.{prologue_law}
 
 pub answers_same : (o whole : Outcome) (fault : PreFault) → Answers o (Err fault) → o ≡ whole →
     Answers whole (Err fault)
@@ -36,35 +38,61 @@ refusal_text source strict h =
     let whole : (utf8_valid_len source == length source) ≡ true = grind (arith, h.whole) in
     rw (short, whole) refl
 
+-- ---- what is heard
+
+draft_heard : (es : List Event) (h : Heard) → (after h es).draft ≡ drafts.built h.draft es
+draft_heard [] h = refl
+draft_heard (e ∷ es) h = draft_heard es (happens h e)
+
+errors_heard : (es : List Event) (h : Heard) → (after h es).errors ≡ errors.after h.errors es
+errors_heard [] h = refl
+errors_heard (e ∷ es) h = errors_heard es (happens h e)
+
+-- what is heard of a source that is read: its functions, and why it is refused if it is
+pub record Whole (source : Text) (h : Heard) : Type 0 where
+  pub functions_are : h.draft.functions ≡ functions source
+  pub refusal_is : (strict : Bool) → refusal_by strict (reads n.Script (terminals source))
+      ≡ refusal_found strict h.errors
+
 -- ---- the recogniser's answer
 
-got_functions : (source : Text) (d : Draft) (tree : Tree) (rest : List Terminal)
+got_functions : (source : Text) (h : Heard) (tree : Tree) (rest : List Terminal)
     → ends (s.Read n.Script ∷ []) (terminals source) ≡ Through (events_of tree) rest
-    → outcome (begun source) (ends (s.Read n.Script ∷ []) (terminals source)) ≡ done d → d.functions ≡ functions source
+    → after (begun source) (events_of tree) ≡ h → h.draft.functions ≡ functions source
 unfolding functions
-got_functions source d tree rest verdict h =
-    let is : outcome (begun source) (Through (events_of tree) rest) ≡ done d =
-    ap (outcome (begun source)) (sym verdict) ∙ h in
-    let built_it : built (begun source) (events_of tree) ≡ d = cc in
-    ap (λ d. d.functions) (sym built_it)
+got_functions source h tree rest verdict built_it =
+    ap (λ (h : Heard). h.draft.functions) (sym built_it)
+    ∙ ap (λ (d : drafts.Draft). d.functions) (draft_heard (events_of tree) (begun source))
     ∙ sym (through_functions source (terminals source) (events_of tree) rest verdict)
 
-done_reads : (source : Text) (d : Draft) (r : Reading Tree) → r ≡ reads n.Script (terminals source)
-    → outcome (begun source) (ends (s.Read n.Script ∷ []) (terminals source)) ≡ done d
-    → (tree : Tree) × (rest : List Terminal) × ((reads n.Script (terminals source) ≡ Got tree rest)
-    × (d.functions ≡ functions source))
-done_reads source d (Got tree rest) e h =
+got_refusal : (source : Text) (h : Heard) (tree : Tree) (rest : List Terminal)
+    → reads n.Script (terminals source) ≡ Got tree rest → after (begun source) (events_of tree) ≡ h
+    → (strict : Bool) → refusal_by strict (reads n.Script (terminals source)) ≡ refusal_found strict h.errors
+got_refusal source h tree rest read built_it strict =
+    ap (refusal_by strict) read
+    ∙ sym (refusal_same tree (script_fits (terminals source) rest tree read) strict)
+    ∙ ap (refusal_found strict) (sym (errors_heard (events_of tree) (begun source)))
+    ∙ ap (λ (h : Heard). refusal_found strict h.errors) built_it
+
+done_reads : (source : Text) (h : Heard) (r : Reading Tree) → r ≡ reads n.Script (terminals source)
+    → outcome (begun source) (ends (s.Read n.Script ∷ []) (terminals source)) ≡ done h → Whole source h
+done_reads source h (Got tree rest) e o =
     let verdict : ends (s.Read n.Script ∷ []) (terminals source) ≡ Through (events_of tree) rest =
     rw (← e) at (ends_script (terminals source)) in
-    (tree, rest, (sym e, got_functions source d tree rest verdict h))
-done_reads source d (Stuck cause ts) e h =
+    let is : outcome (begun source) (Through (events_of tree) rest) ≡ done h =
+    ap (outcome (begun source)) (sym verdict) ∙ o in
+    let built_it : after (begun source) (events_of tree) ≡ h = cc in record {
+      functions_are = got_functions source h tree rest verdict built_it;
+      refusal_is = got_refusal source h tree rest (sym e) built_it;
+    }
+done_reads source h (Stuck cause ts) e o =
     let verdict : ends (s.Read n.Script ∷ []) (terminals source) ≡ At cause ts =
     rw (← e) at (ends_script (terminals source)) in
-    let is : outcome (begun source) (At cause ts) ≡ done d = ap (outcome (begun source)) (sym verdict) ∙ h in cc
-done_reads source d Deeper e h =
+    let is : outcome (begun source) (At cause ts) ≡ done h = ap (outcome (begun source)) (sym verdict) ∙ o in cc
+done_reads source h Deeper e o =
     let verdict : ends (s.Read n.Script ∷ []) (terminals source) ≡ Lost =
     rw (← e) at (ends_script (terminals source)) in
-    let is : outcome (begun source) Lost ≡ done d = ap (outcome (begun source)) (sym verdict) ∙ h in cc
+    let is : outcome (begun source) Lost ≡ done h = ap (outcome (begun source)) (sym verdict) ∙ o in cc
 
 stuck_refuses_it : (source : Text) (why : Refusal) (strict : Bool) (v : Verdict) → v
     ≡ ends (s.Read n.Script ∷ []) (terminals source)
@@ -80,46 +108,25 @@ stuck_refuses_it source why strict Lost e h =
     let is : outcome (begun source) Lost ≡ refused why = ap (outcome (begun source)) e ∙ h in cc
 
 -- the recogniser's answers, for a text
-pub read_ok : (source : Text) (cursor : List Terminal) (begins d : Draft) → cursor ≡ terminals source → begins
-    ≡ begun source
-    → outcome begins (ends (s.Read n.Script ∷ []) cursor) ≡ done d
-    → (tree : Tree) × (rest : List Terminal) × ((reads n.Script (terminals source) ≡ Got tree rest)
-    × (d.functions ≡ functions source))
-read_ok source cursor begins d c b h =
-    done_reads source d (reads n.Script (terminals source)) refl
-    (ap (λ x. outcome x (ends (s.Read n.Script ∷ []) (terminals source))) (sym b)
-    ∙ ap (λ ts. outcome begins (ends (s.Read n.Script ∷ []) ts)) (sym c) ∙ h)
+module _ (source : Text) (cursor : List Terminal) (begins : Heard) (text : IsText source)
+    (at_start : cursor ≡ terminals source) (begun_so : begins ≡ begun source) where
+  from_start : outcome begins (ends (s.Read n.Script ∷ []) cursor)
+      ≡ outcome (begun source) (ends (s.Read n.Script ∷ []) (terminals source))
+  from_start =
+      ap (λ ts. outcome begins (ends (s.Read n.Script ∷ []) ts)) at_start
+      ∙ ap (λ h. outcome h (ends (s.Read n.Script ∷ []) (terminals source))) begun_so
 
-pub read_err : (source : Text) (cursor : List Terminal) (begins : Draft) (fault : PreFault) → IsText source → cursor
-    ≡ terminals source → begins ≡ begun source
-    → Answers (outcome begins (ends (s.Read n.Script ∷ []) cursor)) (Err fault) → Reads source (Err fault)
-read_err source cursor begins (Refused why) text c b h = λ strict.
-    refusal_text source strict text
-    ∙ stuck_refuses_it source why strict (ends (s.Read n.Script ∷ []) (terminals source)) refl
-    (ap (λ x. outcome x (ends (s.Read n.Script ∷ []) (terminals source))) (sym b)
-    ∙ ap (λ ts. outcome begins (ends (s.Read n.Script ∷ []) ts)) (sym c) ∙ h)
-read_err source cursor begins Memory text c b h = tt
+  whole : (h : Heard) → outcome begins (ends (s.Read n.Script ∷ []) cursor) ≡ done h → Whole source h
+  whole h o = done_reads source h (reads n.Script (terminals source)) refl (sym from_start ∙ o)
 
--- ---- strict code
+  pub read_ok : (h : Heard) → outcome begins (ends (s.Read n.Script ∷ []) cursor) ≡ done h → (strict : Bool)
+      → (refusal_of source strict ≡ refusal_found strict h.errors) × (h.draft.functions ≡ functions source)
+  read_ok h o strict =
+      (refusal_text source strict text ∙ (whole h o).refusal_is strict, (whole h o).functions_are)
 
-strict_is : (source : Text) (strict answer : Bool) (tree : Tree) (rest : List Terminal) → IsText source
-    → reads n.Script (terminals source) ≡ Got tree rest
-    → answer ≡ (strict || prologue (terminals source)) → refusal_of source strict
-    ≡ (if answer then None else Some refusal.Sloppy)
-strict_is source strict answer tree rest text read is =
-    refusal_text source strict text
-    ∙ ap (refusal_by strict) read
-    ∙ ap (λ b. if strict || b then None else Some refusal.Sloppy) (prologue_law (terminals source) tree rest read)
-    ∙ ap (λ b. if b then None else Some refusal.Sloppy) (sym is)
-
-pub accepts : (source : Text) (strict answer : Bool) (functions_found : List FunctionInfo) → IsText source
-    → Reads source (Ok functions_found)
-    → answer ≡ (strict || prologue (terminals source)) → answer ≡ true → refusal_of source strict ≡ None
-accepts source strict answer found text read is h =
-    strict_is source strict answer read.0 read.1 text read.2.0 is ∙ ap (λ b. if b then None else Some refusal.Sloppy) h
-
-pub sloppy : (source : Text) (strict answer : Bool) (functions_found : List FunctionInfo) → IsText source
-    → Reads source (Ok functions_found)
-    → answer ≡ (strict || prologue (terminals source)) → answer ≡ false → refusal_of source strict ≡ Some refusal.Sloppy
-sloppy source strict answer found text read is h =
-    strict_is source strict answer read.0 read.1 text read.2.0 is ∙ ap (λ b. if b then None else Some refusal.Sloppy) h
+  pub read_err : (fault : PreFault) → Answers (outcome begins (ends (s.Read n.Script ∷ []) cursor)) (Err fault)
+      → (strict : Bool) → Reads source strict (Err fault)
+  read_err (Refused why) o strict =
+      refusal_text source strict text
+      ∙ stuck_refuses_it source why strict (ends (s.Read n.Script ∷ []) (terminals source)) refl (sym from_start ∙ o)
+  read_err Memory o strict = tt

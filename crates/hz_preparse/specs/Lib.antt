@@ -1,5 +1,4 @@
-pub mod Prologue
-pub mod Hearing
+pub mod Heard
 pub mod Outcome
 pub mod Step
 pub mod Starts

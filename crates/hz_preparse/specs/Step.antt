@@ -6,7 +6,6 @@ use Rattle.hz_tree.specs.declared.nonterminal.Nonterminal.TheVariants as n
 use Rattle.hz_tree.specs.declared.outside.BadKind.{BadKind}
 use Rattle.hz_tree.specs.declared.symbol.Symbol.{Symbol}
 use Rattle.hz_tree.specs.declared.symbol.Symbol.TheVariants as s
-use Rattle.hz_tree.specs.trees.Drafts.{Draft}
 use Rattle.hz_tree.specs.grammar.Table.{pushes, fails, step}
 use Rattle.hz_tree.specs.grammar.Look.{Terminal, look}
 use Rattle.hz_tree.specs.reading.Reading.{Got, Stuck, takes, place_ahead}
@@ -14,6 +13,7 @@ use Rattle.hz_tree.specs.sources.Refusals.{refusal_at}
 use Rattle.hz_tree.specs.reading.Stack.{ends, work}
 use Rattle.hz_preparse.specs.declared.fault.PreFault.{PreFault}
 use Rattle.hz_preparse.specs.declared.fault.PreFault.TheVariants.{Refused, Memory}
+use Rattle.hz_preparse.specs.Heard.{Heard}
 use Rattle.hz_preparse.specs.Outcome.{outcome, Answers}
 
 abbrev pub Done : Type 0
@@ -40,12 +40,12 @@ Expands m ts old (Err (Refused refusal)) new =
 Expands m ts old (Err Memory) new = Unit {0}
 
 -- the outcome stays the same, and one step less is left
-pub record Goes (stack : List Symbol) (ts : List Terminal) (d : Draft) (stack' : List Symbol) (ts' : List Terminal)
-    (d' : Draft) : Type 0 where
+pub record Goes (stack : List Symbol) (ts : List Terminal) (d : Heard) (stack' : List Symbol) (ts' : List Terminal)
+    (d' : Heard) : Type 0 where
   pub same : outcome d' (ends stack' ts') ≡ outcome d (ends stack ts)
   pub less : work stack ts ≡ suc (work stack' ts')
 
-abbrev pub StepsPast : Symbol → (stack : List Symbol) → List Terminal → Draft → Done → (stack' : List Symbol)
-    → List Terminal → Draft → Type 0
+abbrev pub StepsPast : Symbol → (stack : List Symbol) → List Terminal → Heard → Done → (stack' : List Symbol)
+    → List Terminal → Heard → Type 0
 StepsPast symbol stack ts d (Ok done) stack' ts' d' = Goes (symbol ∷ stack) ts d stack' ts' d'
 StepsPast symbol stack ts d (Err fault) stack' ts' d' = Answers (outcome d (ends (symbol ∷ stack) ts)) (Err fault)

@@ -1,8 +1,9 @@
 ghost use Rattle.std.specs.Prelude.{◌≡◌};
 ghost use Rattle.hz_tree.specs.trees.Drafts.{change, counted, ended};
 
+use hz_errors::Told;
 use hz_list::Memory;
-use hz_tree::{FunctionInfo, FunctionInfos, FunctionKind};
+use hz_tree::{FunctionInfo, FunctionInfos, FunctionKind, Role, Signal};
 use std::alloc::Global;
 use std::marker::Model;
 
@@ -26,7 +27,8 @@ impl Model for Draft {
 
 impl Draft {
     ghost use Rattle.std.specs.Prelude.{◌≡◌, IfOk, OnOk};
-    ghost use Rattle.hz_tree.specs.trees.Drafts.{begun, opens, counts, closes, innermost as innermost_of};
+    ghost use Rattle.hz_tree.specs.grammar.Signals.{event};
+    ghost use Rattle.hz_tree.specs.trees.Drafts.{begun, happens, opens, counts, closes, innermost as innermost_of};
 
     /// The script alone.
     pub fn new(alloc: Global, source: &[u8]) -> Result<Draft, Memory>
@@ -45,8 +47,21 @@ impl Draft {
         Ok(Draft { functions, opened })
     }
 
+    /// Goes on by what the grammar tells.
+    pub fn tell(&mut self, signal: Signal, told: &Told<'_>) -> Result<(), Memory>
+        ensures { OnOk result (self.new ≡ happens self.old (event signal told.now)) }
+    {
+        match signal {
+            Signal::Open(_, kind) => self.open(kind, told.at)?,
+            Signal::Declare(Role::Parameter) => self.count(),
+            Signal::Close => self.close(told.behind),
+            _ => {}
+        }
+        Ok(())
+    }
+
     /// A function starts at a place. Its end is set when it ends.
-    pub fn open(&mut self, kind: FunctionKind, at: usize) -> Result<(), Memory>
+    fn open(&mut self, kind: FunctionKind, at: usize) -> Result<(), Memory>
         ensures { OnOk result (self.new ≡ opens kind at self.old) }
     {
         let number = self.functions.len();
@@ -63,7 +78,7 @@ impl Draft {
     }
 
     /// The innermost function has one more parameter.
-    pub fn count(&mut self)
+    fn count(&mut self)
         ensures { self.new ≡ counts self.old }
     {
         if let Some(number) = self.innermost() {
@@ -72,7 +87,7 @@ impl Draft {
     }
 
     /// The innermost function ends.
-    pub fn close(&mut self, end: usize)
+    fn close(&mut self, end: usize)
         ensures { self.new ≡ closes end self.old }
     {
         if let Some(number) = self.opened.pop() {

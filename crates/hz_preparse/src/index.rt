@@ -1,15 +1,11 @@
-ghost use Rattle.std.specs.Prelude.{◌≡◌, ◌||◌, Bool, IfOk, IfErr, OnOk, None};
-ghost use Rattle.hz_tree.specs.grammar.Look.{terminals};
+ghost use Rattle.std.specs.Prelude.{◌≡◌, Bool, IfOk, IfErr, OnOk, None};
 ghost use Rattle.hz_tree.specs.sources.Refusals as spec;
 ghost use Rattle.hz_preparse.specs.Outcome.{Refuses, IsText, Reads};
-ghost use Rattle.hz_preparse.specs.Prologue.{prologue};
 
-use crate::directives::says_strict;
-use crate::draft::Draft;
 use crate::fault::PreFault;
+use crate::heard::Heard;
 use crate::recogniser::recognise;
 use hz_cursor::Cursor;
-use hz_list::Memory;
 use hz_tree::{FunctionInfos, Index, Refusal};
 use std::alloc::Global;
 
@@ -21,7 +17,9 @@ pub const MAX_LENGTH: usize = 16_777_215;
 ///
 /// - `Ok`: the source is not refused. The index holds the source, the flag and the source's functions.
 /// - `Refused`: the source is refused, and this is the reason. The first that holds counts: it is too long, it is no
-///   UTF-8, the grammar is stuck in it, or it is not strict code. Places are counted in bytes.
+///   UTF-8, the grammar is stuck in it, it is not strict code, it has an early error, it is outside the profile, or it
+///   passes a limit. Of early errors the first by place counts, and at one place the first in the order of their kinds;
+///   so too of the others. Functions that are never called count like all others. Places are counted in bytes.
 /// - `Memory`: memory ran out. This can come in the place of either.
 ///
 /// The time is linear in the source's length. A construct within others takes memory and no recursion.
@@ -31,10 +29,7 @@ pub fn preparse<'a>(alloc: Global, source: &'a [u8], strict: bool) -> Result<Ind
     ensures refused { IfErr result (Refuses (spec.refusal_of source.now strict)) }
 {
     check_text(source)?;
-    let functions = functions_of(alloc, source)?;
-    if !is_strict(alloc, source, strict)? {
-        return Err(PreFault::Refused(Refusal::Sloppy));
-    }
+    let functions = functions_of(alloc, source, strict)?;
     Ok(Index::new(source, strict, functions))
 }
 
@@ -54,22 +49,16 @@ fn check_text(source: &[u8]) -> Result<(), PreFault>
     }
 }
 
-/// The functions of a text that the grammar reads.
-fn functions_of(alloc: Global, source: &[u8]) -> Result<FunctionInfos, PreFault>
+/// The functions of a text that is not refused.
+fn functions_of(alloc: Global, source: &[u8], strict: bool) -> Result<FunctionInfos, PreFault>
     requires { IsText source.now }
-    ensures { Reads source.now result }
+    ensures { Reads source.now strict result }
 {
     let mut cursor = Cursor::new(alloc, source)?;
-    let draft = Draft::new(alloc, source)?;
-    let read = recognise(alloc, &mut cursor, draft)?;
-    Ok(read.into_functions())
-}
-
-fn is_strict(alloc: Global, source: &[u8], strict: bool) -> Result<bool, Memory>
-    ensures { IfOk result (λ answer. answer ≡ (strict || prologue (terminals source.now))) }
-{
-    if strict {
-        return Ok(true);
+    let begun = Heard::new(alloc, source)?;
+    let heard = recognise(alloc, &mut cursor, begun)?;
+    match heard.refusal(strict) {
+        Some(refusal) => Err(PreFault::Refused(refusal)),
+        None => Ok(heard.into_functions()),
     }
-    says_strict(alloc, source)
 }

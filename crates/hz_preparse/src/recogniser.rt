@@ -5,30 +5,35 @@ ghost use Rattle.hz_tree.specs.sources.Refusals as spec;
 ghost use Rattle.hz_tree.specs.grammar.Signals.{event};
 ghost use Rattle.hz_tree.specs.reading.Reading.{told_ahead};
 ghost use Rattle.hz_tree.specs.reading.Stack.{ends};
-ghost use Rattle.hz_tree.specs.trees.Drafts.{happens};
+ghost use Rattle.hz_preparse.specs.Heard.{happens};
 ghost use Rattle.hz_preparse.specs.Outcome.{outcome, Answers};
 ghost use Rattle.hz_preparse.specs.Step.{Begins, TakesToken, Expands, StepsPast};
 
-use crate::draft::Draft;
 use crate::fault::PreFault;
+use crate::heard::Heard;
 use hz_cursor::Cursor;
+use hz_errors::Told;
 use hz_list::Memory;
 use hz_rows::{Stack, Stop, expand};
-use hz_tree::{BadKind, Class, Nonterminal, Refusal, Role, Signal, Symbol};
+use hz_tree::{BadKind, Class, Nonterminal, Refusal, Signal, Symbol};
 use std::alloc::Global;
 
-/// Reads a script, and tells the draft of its functions.
-pub fn recognise(alloc: Global, cursor: &mut Cursor<'_>, draft: Draft) -> Result<Draft, PreFault>
-    ensures { Answers (outcome draft (ends (Symbol.Read Nonterminal.Script ∷ []) cursor.old))
+/// Reads a script, and tells what is told along it.
+pub fn recognise<'a>(
+    alloc: Global,
+    cursor: &mut Cursor<'a>,
+    heard: Heard<'a>,
+) -> Result<Heard<'a>, PreFault>
+    ensures { Answers (outcome heard.entry (ends (Symbol.Read Nonterminal.Script ∷ []) cursor.old))
         result }
 {
-    let mut draft = draft;
+    let mut heard = heard;
     let mut stack = Stack::new(alloc);
     begin(&mut stack)?;
     while let Some(symbol) = stack.pop() {
-        step(&mut stack, cursor, &mut draft, symbol)?;
+        step(&mut stack, cursor, &mut heard, symbol)?;
     }
-    Ok(draft)
+    Ok(heard)
 }
 
 fn begin(stack: &mut Stack) -> Result<(), PreFault>
@@ -41,33 +46,39 @@ fn begin(stack: &mut Stack) -> Result<(), PreFault>
 }
 
 /// Goes past one symbol, which was taken from the stack.
-fn step(
+fn step<'a>(
     stack: &mut Stack,
-    cursor: &mut Cursor<'_>,
-    draft: &mut Draft,
+    cursor: &mut Cursor<'a>,
+    heard: &mut Heard<'a>,
     symbol: Symbol,
 ) -> Result<(), PreFault>
-    ensures { StepsPast symbol stack.old cursor.old draft.old result stack.new cursor.new draft.new }
+    ensures { StepsPast symbol stack.old cursor.old heard.old result stack.new cursor.new heard.new }
 {
     match symbol {
         Symbol::Take(wanted) => return take(cursor, wanted),
         Symbol::Read(nonterminal) => return read(stack, cursor, nonterminal),
-        Symbol::Tell(signal) => tell(draft, cursor, signal)?,
+        Symbol::Tell(signal) => tell(heard, cursor, signal)?,
     }
     Ok(())
 }
 
-/// Tells the draft what the grammar says before the next token.
-fn tell(draft: &mut Draft, cursor: &Cursor<'_>, signal: Signal) -> Result<(), Memory>
-    ensures { OnOk result (draft.new ≡ happens draft.old (event signal (told_ahead cursor.now))) }
+/// Tells what the grammar says before the next token.
+fn tell<'a>(heard: &mut Heard<'a>, cursor: &Cursor<'a>, signal: Signal) -> Result<(), Memory>
+    ensures { OnOk result (heard.new ≡ happens heard.old (event signal (told_ahead cursor.now))) }
 {
-    match signal {
-        Signal::Open(_, kind) => draft.open(kind, cursor.place())?,
-        Signal::Declare(Role::Parameter) => draft.count(),
-        Signal::Close => draft.close(cursor.behind()),
-        _ => {}
+    heard.tell(signal, &ahead(cursor))
+}
+
+/// What stands before the next token, and what that is.
+fn ahead<'a>(cursor: &Cursor<'a>) -> Told<'a>
+    ensures { result ≡ told_ahead cursor.now }
+{
+    Told {
+        at: cursor.place(),
+        text: cursor.text(),
+        octal: cursor.octal(),
+        behind: cursor.behind(),
     }
-    Ok(())
 }
 
 fn take(cursor: &mut Cursor<'_>, wanted: Class) -> Result<(), PreFault>

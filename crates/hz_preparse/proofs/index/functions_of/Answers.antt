@@ -1,17 +1,23 @@
-use Rattle.std.proofs.Common.{◌∙◌}
+use Rattle.std.proofs.Common.{◌∙◌, sym}
 use Rattle.std.proofs.lemmas.Result.{err_from_is_err_and}
 use Rattle.hz_preparse.proofs.Whole.{read_ok, read_err}
 use Rattle.hz_preparse.proofs.index.functions_of.Goals as goal
 
-pub returns-in_err-read : goal.returns-in_err-read
-returns-in_err-read c =
-    let p = err_from_is_err_and c.from_residual-in_err-read.result c.from_residual-in_err-read.ensures.1 in
+pub returns-in_err-heard : goal.returns-in_err-heard
+returns-in_err-heard c =
+    let p = err_from_is_err_and c.from_residual-in_err-heard.result c.from_residual-in_err-heard.ensures.1 in
     rw (p.1, p.2)
-    (read_err c.args.source.now c.in_ok-cursor.cursor c.in_ok-draft.draft c.in_err-read.field-0.0 c.requires
-    c.in_ok-cursor.ensures c.in_ok-draft.ensures c.in_err-read.ensures)
+    (read_err c.args.source.now c.in_ok-cursor.cursor c.in_ok-begun.begun c.requires c.in_ok-cursor.ensures
+    c.in_ok-begun.ensures c.in_err-heard.field-0.0 c.in_err-heard.ensures c.args.strict)
+
+pub returns-in-Some : goal.returns-in-Some
+returns-in-Some c =
+    let read = read_ok c.args.source.now c.in_ok-cursor.cursor c.in_ok-begun.begun c.requires c.in_ok-cursor.ensures
+    c.in_ok-begun.ensures c.in_ok-heard.heard c.in_ok-heard.ensures c.args.strict in
+    read.0 ∙ sym c.refusal.ensures ∙ c.in-Some.is
 
 pub returns : goal.returns
 returns c =
-    let read = read_ok c.args.source.now c.in_ok-cursor.cursor c.in_ok-draft.draft c.in_ok-read.read
-    c.in_ok-cursor.ensures c.in_ok-draft.ensures c.in_ok-read.ensures in
-    (read.0, read.1, (read.2.0, c.into_functions.ensures ∙ read.2.1))
+    let read = read_ok c.args.source.now c.in_ok-cursor.cursor c.in_ok-begun.begun c.requires c.in_ok-cursor.ensures
+    c.in_ok-begun.ensures c.in_ok-heard.heard c.in_ok-heard.ensures c.args.strict in
+    (read.0 ∙ sym c.refusal.ensures ∙ c.in-None.is, c.into_functions.ensures ∙ read.1)

@@ -9,7 +9,7 @@ use Rattle.hz_preparse.proofs.Whole.{answers_same}
 use Rattle.hz_preparse.proofs.recogniser.recognise.Goals as goal
 
 pub loop-symbol-init : goal.loop-symbol-init
-loop-symbol-init c = ap (λ xs. outcome c.args.draft (ends xs c.args.cursor.now)) (c.in_ok-begin.ensures
+loop-symbol-init c = ap (λ xs. outcome c.args.heard (ends xs c.args.cursor.now)) (c.in_ok-begin.ensures
     ∙ ap (λ xs. s.Read n.Script ∷ xs) c.new-stack.ensures)
 
 pub loop-symbol-smaller : goal.loop-symbol-smaller
@@ -24,20 +24,20 @@ loop-symbol-smaller c =
 pub loop-symbol-preserved : goal.loop-symbol-preserved
 loop-symbol-preserved c =
     c.in_ok-step.ensures.same
-    ∙ ap (λ xs. outcome c.loop-symbol.draft (ends xs c.loop-symbol.cursor)) (sym c.in-Some.ensures)
+    ∙ ap (λ xs. outcome c.loop-symbol.heard (ends xs c.loop-symbol.cursor)) (sym c.in-Some.ensures)
     ∙ c.loop-symbol.invariant
 
 pub returns-in_err-step : goal.returns-in_err-step
 returns-in_err-step c =
     let p = err_from_is_err_and c.from_residual-in_err-step.result c.from_residual-in_err-step.ensures.1 in
     rw (p.1, p.2)
-    (answers_same (outcome c.loop-symbol.draft (ends (c.in-Some.symbol ∷ c.pop.new.self) c.loop-symbol.cursor))
-    (outcome c.args.draft (ends (s.Read n.Script ∷ []) c.args.cursor.now)) c.in_err-step.field-0.0 c.in_err-step.ensures
-    (ap (λ xs. outcome c.loop-symbol.draft (ends xs c.loop-symbol.cursor)) (sym c.in-Some.ensures)
+    (answers_same (outcome c.loop-symbol.heard (ends (c.in-Some.symbol ∷ c.pop.new.self) c.loop-symbol.cursor))
+    (outcome c.args.heard (ends (s.Read n.Script ∷ []) c.args.cursor.now)) c.in_err-step.field-0.0 c.in_err-step.ensures
+    (ap (λ xs. outcome c.loop-symbol.heard (ends xs c.loop-symbol.cursor)) (sym c.in-Some.ensures)
     ∙ c.loop-symbol.invariant))
 
 pub returns : goal.returns
 returns c =
     sym c.loop-symbol.invariant
-    ∙ ap (λ xs. outcome c.loop-symbol.draft (ends xs c.loop-symbol.cursor)) c.in_default.ensures
-    ∙ ap (outcome c.loop-symbol.draft) (ends_none c.loop-symbol.cursor)
+    ∙ ap (λ xs. outcome c.loop-symbol.heard (ends xs c.loop-symbol.cursor)) c.in_default.ensures
+    ∙ ap (outcome c.loop-symbol.heard) (ends_none c.loop-symbol.cursor)

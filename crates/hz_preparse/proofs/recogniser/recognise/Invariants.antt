@@ -6,8 +6,8 @@ use Rattle.hz_preparse.specs.Outcome.{outcome}
 use Rattle.hz_preparse.proofs.recogniser.recognise.Given as goal
 
 abbrev pub invariant-loop-symbol : goal.invariant-loop-symbol
-invariant-loop-symbol l = outcome l.draft (ends l.stack l.cursor)
-    ≡ outcome l.fn.draft (ends (s.Read n.Script ∷ []) l.fn.cursor)
+invariant-loop-symbol l = outcome l.heard (ends l.stack l.cursor)
+    ≡ outcome l.fn.heard (ends (s.Read n.Script ∷ []) l.fn.cursor)
 
 abbrev pub decreases-loop-symbol : goal.decreases-loop-symbol
 decreases-loop-symbol l = work l.stack l.cursor
