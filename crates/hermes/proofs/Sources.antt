@@ -72,6 +72,9 @@ module _ (strict : Bool) (n : ℕ) (is : n ≡ max_length + 1) where
   refused_for s (refusal.Syntax at) r = sym (same_refusal s) ∙ r
   refused_for s (refusal.Outside kind at) r = sym (same_refusal s) ∙ r
   refused_for s refusal.Sloppy r = sym (same_refusal s) ∙ r
+  refused_for s (refusal.Early kind at) r = sym (same_refusal s) ∙ r
+  refused_for s (refusal.Profile kind at) r = sym (same_refusal s) ∙ r
+  refused_for s (refusal.Limit kind at) r = sym (same_refusal s) ∙ r
 
   whole : (end : Status) (s : List ℕ) (old new : Told) → Outcome end strict (take n s) old new
       → Outcome end strict s old new

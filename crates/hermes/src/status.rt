@@ -1,11 +1,11 @@
 // How a call of the command ends: its status, the code that the process ends with, and the line on standard error.
 
 ghost use Rattle.std.specs.Prelude.{◌≡◌, ◌+◌, ◌≤◌, [], ◌∷◌, ◌++◌, codes, decimal, length};
-ghost use Rattle.hz_tree.specs.sources.Shown.{name_of_kind, text_of_refusal};
+ghost use Rattle.hz_tree.specs.sources.Shown.{text_of_refusal};
 ghost use Rattle.hermes.specs.Statuses.{code_of, line_of};
 
 use arrayvec::ArrayVec;
-use hz_tree::{OutsideKind, Refusal};
+use hz_tree::Refusal;
 use hz_value::Left;
 use itoa::Buffer;
 
@@ -77,20 +77,25 @@ fn refused(refusal: Refusal) -> Line
         Refusal::TooLong => sentence(b"refused: ", b"TooLong"),
         Refusal::NotUtf8(at) => numbered(b"refused: NotUtf8 at ", at),
         Refusal::Syntax(at) => numbered(b"refused: Syntax at ", at),
-        Refusal::Outside(kind, at) => outside(kind, at),
+        Refusal::Outside(kind, at) => placed(b"refused: Outside(", kind.name(), at),
         Refusal::Sloppy => sentence(b"refused: ", b"Sloppy"),
+        Refusal::Early(kind, at) => placed(b"refused: Early(", kind.name(), at),
+        Refusal::Profile(kind, at) => placed(b"refused: Profile(", kind.name(), at),
+        Refusal::Limit(kind, at) => placed(b"refused: Limit(", kind.name(), at),
         Refusal::NotYet(at) => numbered(b"refused: NotYet at ", at),
     }
 }
 
-fn outside(kind: OutsideKind, at: usize) -> Line
-    ensures { result.items ≡ codes "refused: Outside(" ++ name_of_kind kind ++ codes ") at "
-        ++ decimal at ++ 10 ∷ [] }
+// The words with a kind's name and its place behind them.
+fn placed(words: &[u8], name: &str, at: usize) -> Line
+    requires words { length words.now ≤ 20 }
+    requires name { length name.now ≤ 18 }
+    ensures { result.items ≡ words.now ++ name.now ++ codes ") at " ++ decimal at ++ 10 ∷ [] }
 {
     let mut digits = Buffer::new();
     let mut line = ArrayVec::new();
-    add(&mut line, b"refused: Outside(");
-    add(&mut line, kind.name().as_bytes());
+    add(&mut line, words);
+    add(&mut line, name.as_bytes());
     add(&mut line, b") at ");
     add(&mut line, digits.format(at).as_bytes());
     line.push(b'\n');
