@@ -3,5 +3,5 @@ pub mod DigitRuns
 mod OperatorExamples
 pub mod PowerLaws
 pub mod RunLaws
-mod StartLaws
+pub mod StartLaws
 pub mod TurnLaws

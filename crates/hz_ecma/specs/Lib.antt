@@ -1,0 +1,3 @@
+pub mod evaluator
+pub mod runs
+pub mod agreement
