@@ -16,6 +16,7 @@ mod nonterminal;
 mod operator;
 mod operators;
 mod outside;
+mod place;
 mod profile;
 mod refusal;
 mod scope;
@@ -27,8 +28,8 @@ mod tree;
 pub use class::{Bracket, Bracketing, Class};
 pub use early::EarlyKind;
 pub use front::{Front, Stretch};
-pub use index::{FunctionInfo, FunctionInfos, Index};
-pub use limit::LimitKind;
+pub use index::{FunctionInfo, FunctionInfos};
+pub use limit::{LimitKind, MAX_DEPTH, MAX_LISTED};
 pub use look::Look;
 pub use nonterminal::{Context, Nonterminal};
 pub use operator::{
@@ -36,8 +37,9 @@ pub use operator::{
     UpdateOperator,
 };
 pub use outside::{BadKind, OutsideKind};
+pub use place::Place;
 pub use profile::ProfileKind;
-pub use refusal::Refusal;
+pub use refusal::{MAX_LENGTH, Refusal};
 pub use scope::{BindingKind, ScopeKind};
 pub use signal::{Jump, NodeKind, NodeShape, Role, Signal};
 pub use symbol::Symbol;

@@ -3,6 +3,12 @@ ghost use Rattle.hz_tree.specs.sources.Kinds.{name_of_limit};
 
 use std::fmt;
 
+/// The most statements and expressions that stand within each other, the outermost one among them.
+pub const MAX_DEPTH: usize = 400;
+
+/// The most parameters of a function, and the most arguments of a call or a `new`.
+pub const MAX_LISTED: usize = 254;
+
 /// The limits of a source. The order is that of this list; of several that are passed at one place the first one in it
 /// is told.
 #[derive(Clone, Copy, Debug, PartialEq, Eq, PartialOrd, Ord)]

@@ -4,10 +4,13 @@ use crate::outside::OutsideKind;
 use crate::profile::ProfileKind;
 use std::fmt;
 
+/// The greatest length of a source, in bytes.
+pub const MAX_LENGTH: usize = 16_777_215;
+
 /// Why a source is refused.
 #[derive(Clone, Copy, Debug, PartialEq, Eq)]
 pub enum Refusal {
-    /// It has more than 16,777,215 bytes.
+    /// It has more than `MAX_LENGTH` bytes.
     TooLong,
 
     /// At this place, counted in bytes, no well-formed UTF-8 sequence stands.

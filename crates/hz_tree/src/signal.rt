@@ -7,7 +7,7 @@ use crate::tree::FunctionKind;
 pub enum NodeKind {
     Statement,
 
-    /// The statement of an expression.
+    /// The statement of an expression. It ends as a `Statement`.
     Expression,
     Loop,
     Switch,

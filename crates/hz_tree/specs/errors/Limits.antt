@@ -2,6 +2,7 @@
 use Rattle.std.specs.Prelude.{ℕ, zero, suc, min, List, [], ◌∷◌, ◌++◌, map, drop, Option, Some, None}
 use Rattle.hz_tree.specs.declared.limit.LimitKind.{LimitKind}
 use Rattle.hz_tree.specs.declared.limit.LimitKind.TheVariants as limit
+use Rattle.hz_tree.specs.declared.limit.TheConstants.{MAX_DEPTH, MAX_LISTED}
 use Rattle.hz_tree.specs.declared.tree.Bound.{Bound}
 use Rattle.hz_tree.specs.declared.tree.FunctionForm.{FunctionForm}
 use Rattle.hz_tree.specs.declared.tree.FunctionForm.TheVariants as form
@@ -46,7 +47,7 @@ level at parts = record { start = at; levels = at ∷ all_levels parts; errors =
 
 -- the most parameters of a function, and arguments of a call
 abbrev pub max_listed : ℕ
-max_listed = 254
+max_listed = MAX_LISTED
 
 -- the first one that is too many
 abbrev pub first_error : LimitKind → List ℕ → List LimitError
@@ -106,7 +107,7 @@ depths_of = fold-Tree Depths depths_layer
 
 -- the most levels
 abbrev pub max_depth : ℕ
-max_depth = 400
+max_depth = MAX_DEPTH
 
 abbrev pub deeper : List ℕ → List LimitError
 deeper levels = map (λ at. (limit.Nesting, at)) (drop max_depth levels)

@@ -8,12 +8,14 @@ use Rattle.hz_tree.specs.declared.outside.BadKind.TheVariants as bad
 use Rattle.hz_tree.specs.declared.nonterminal.Nonterminal.TheVariants as n
 use Rattle.hz_tree.specs.declared.refusal.Refusal.{Refusal}
 use Rattle.hz_tree.specs.declared.refusal.Refusal.TheVariants as refusal
+use Rattle.hz_tree.specs.declared.refusal.TheConstants.{MAX_LENGTH}
 use Rattle.hz_tree.specs.declared.tree.Tree.{Tree}
 use Rattle.hz_tree.specs.tokens.Text.{Text}
 use Rattle.hz_tree.specs.grammar.Look.{terminals}
 use Rattle.hz_tree.specs.reading.Reading.{Reading, Got, Stuck, Deeper, reads, place_ahead}
 use Rattle.hz_tree.specs.declared.index.FunctionInfo.{FunctionInfo}
 use Rattle.hz_tree.specs.trees.Functions.{functions_of}
+use Rattle.hz_tree.specs.trees.FunctionScopes.{FunctionScopes, function_scopes_of}
 use Rattle.hz_tree.specs.errors.Limits.{LimitError, limit_errors}
 use Rattle.hz_tree.specs.errors.Scopes.{EarlyError}
 use Rattle.hz_tree.specs.errors.Sources.{early_errors, profile_errors}
@@ -26,7 +28,7 @@ use Rattle.hz_tree.specs.sources.Least.{least_of}
 
 -- the longest source
 abbrev pub max_length : ℕ
-max_length = 16777215
+max_length = MAX_LENGTH
 
 abbrev pub refusal_at : BadKind → (place : ℕ) → Refusal
 refusal_at bad.Syntax place = refusal.Syntax place
@@ -73,6 +75,14 @@ functions_by source _ = []
 -- the functions of a source that is not refused
 unfoldable pub functions : Text → List FunctionInfo
 functions source = functions_by source (reads n.Script (terminals source))
+
+abbrev pub function_scopes_by : Text → Reading Tree → List FunctionScopes
+function_scopes_by source (Got tree ts) = function_scopes_of source tree
+function_scopes_by source _ = []
+
+-- and their scopes and free names, in the same order
+unfoldable pub function_scopes : Text → List FunctionScopes
+function_scopes source = function_scopes_by source (reads n.Script (terminals source))
 
 -- a source that is not refused, read as strict code where `strict` is true
 pub record Accepted : Type 0 where
