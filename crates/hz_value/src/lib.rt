@@ -6,7 +6,8 @@
 //
 // The definitions of what a script does begin here too: `specs/operators` has conversions and operators on all
 // values, `specs/world` what a run works on, and `specs/system` how it goes on, whatever a function's meaning is.
-// `laws` says that a run has one outcome, that its events only grow and that its turns only fall.
+// `laws` says that a run has one outcome, that its events only grow, and that its turns only fall where no step of a
+// function raises them.
 #![tactic(auto)]
 
 mod integers;
