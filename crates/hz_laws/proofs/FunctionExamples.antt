@@ -5,7 +5,7 @@ use Rattle.hz_tree.proofs.Scanning.{scanning}
 use Rattle.hz_tree.specs.grammar.Classes.{class_by, same_class, same_bracket}
 use Rattle.hz_tree.specs.grammar.Look.{terminals}
 use Rattle.hz_tree.specs.grammar.Signals.{Event}
-use Rattle.hz_tree.specs.reading.Reading.{Reading, Got, reads, tells, reads_to, reads_by}
+use Rattle.hz_tree.specs.reading.Reading.{Reading, Got, tells, reads_to, reads_by}
 use Rattle.hz_tree.specs.trees.Drafts.{built, begun}
 
 -- where the functions that events build start and end, and how many parameters count

@@ -2,11 +2,14 @@ pub mod GrammarExamples
 pub mod FunctionExamples
 pub mod TreeLaws
 pub mod Ranks
+pub mod Braces
 pub mod Depth
 pub mod Told
 pub mod Made
 pub mod Sorted
 pub mod RowLaws
+pub mod Balance
+pub mod Marks
 pub mod ReadingLaws
 pub mod StackLaws
 pub mod MoveLaws
@@ -14,3 +17,5 @@ pub mod Heard
 pub mod Tied
 pub mod Answers
 pub mod Starts
+pub mod Hearing
+pub mod Fits

@@ -1,8 +1,7 @@
 -- What a reading gives can stand where the grammar puts it, where every row makes such a tree of such parts.
-use Rattle.std.proofs.Common.{◌≡◌, ℕ, zero, suc, Bool, true, false, ◌&&◌, List, [], ◌∷◌, ◌++◌, map, Option, Some, None}
-use Rattle.std.proofs.Common.{refl, ap, sym, ◌∙◌, arith}
+use Rattle.std.proofs.Common.{◌≡◌, ℕ, zero, suc, Bool, true, false, not, ◌&&◌, ◌||◌, List, [], ◌∷◌, ◌++◌, map}
+use Rattle.std.proofs.Common.{Option, Some, None, refl, ap, sym, ◌∙◌, arith}
 use Rattle.std.proofs.Math.Bool.{and_assoc, and-true}
-use Rattle.hz_tree.specs.declared.class.Class.{Class}
 use Rattle.hz_tree.specs.declared.nonterminal.Nonterminal.{Nonterminal}
 use Rattle.hz_tree.specs.declared.nonterminal.Nonterminal.TheVariants as n
 use Rattle.hz_tree.specs.declared.operator.DeclarationWord.{DeclarationWord}
@@ -32,10 +31,8 @@ use Rattle.hz_tree.specs.grammar.Table.{row}
 use Rattle.hz_tree.specs.reading.Reading.{Reading, Got, Stuck, Deeper, and_then, takes, Reader, read_one, read_all}
 use Rattle.hz_tree.specs.reading.Reading.{by_row, reads_to, reads_by, enough, reads}
 use Rattle.hz_tree.specs.tokens.Text.{Text}
-use Rattle.hz_tree.specs.trees.Places.{optional}
 use Rattle.hz_laws.specs.Sorts.{Sort, script, statement, bind, clause, handler, expression, element, property, method}
-use Rattle.hz_laws.specs.Sorts.{body, key, tail, is_form, Fits, all_fit, some_fit, fits_layer, fits_of}
-use Rattle.hz_laws.proofs.Ranks.{and_left, and_right}
+use Rattle.hz_laws.specs.Sorts.{body, key, tail, is_form, Fits, all_fit, fits_layer, fits_of}
 
 -- Whether a tree fits, from the trees in it.
 abbrev pub own_fits : Tree-F Tree → Fits
@@ -51,7 +48,8 @@ abbrev pub all_sorted : Sort → List Tree → Bool
 all_sorted wanted trees = all_fit wanted (map fits_of trees)
 
 abbrev pub sorted_option : Sort → Option Tree → Bool
-sorted_option wanted tree = all_sorted wanted (optional tree)
+sorted_option wanted None = true
+sorted_option wanted (Some tree) = fits_of tree wanted
 
 abbrev pub sorted_after_key : AfterKey → Bool
 sorted_after_key (has_value tree) = fits_of tree expression
@@ -142,9 +140,41 @@ sorted_part (s.Take wanted) part = true
 sorted_part (s.Read m) part = sorted_value m part
 sorted_part (s.Tell signal) part = true
 
+-- what it gives has no tree in it
+abbrev is_treeless : Nonterminal → Bool
+is_treeless (n.Bound role) = true
+is_treeless n.Semi = true
+is_treeless n.LooseSemi = true
+is_treeless (n.Label jump) = true
+is_treeless n.CatchName = true
+is_treeless n.ForOpen = true
+is_treeless n.ArrowSign = true
+is_treeless n.Word = true
+is_treeless n.ShorthandEnd = true
+is_treeless n.OwnName = true
+is_treeless n.Params = true
+is_treeless n.Parameters = true
+is_treeless n.MoreParameters = true
+is_treeless n.ParameterEnd = true
+is_treeless _ = false
+
+abbrev has_trees : List Symbol → Bool
+has_trees [] = false
+has_trees (s.Read m ∷ more) = not (is_treeless m) || has_trees more
+has_trees (_ ∷ more) = has_trees more
+
+-- both, where there are trees in both
+abbrev joined : (no_first some_more : Bool) → Bool → Bool → Bool
+joined true some_more first more = more
+joined false true first more = first && more
+joined false false first more = first
+
 abbrev pub sorted_parts : (right : List Symbol) → Parts Value right → Bool
 sorted_parts [] parts = true
-sorted_parts (symbol ∷ more) parts = sorted_part symbol parts.0 && sorted_parts more parts.1
+sorted_parts (s.Read m ∷ more) parts =
+    joined (is_treeless m) (has_trees more) (sorted_value m parts.0) (sorted_parts more parts.1)
+sorted_parts (s.Take wanted ∷ more) parts = sorted_parts more parts.1
+sorted_parts (s.Tell signal ∷ more) parts = sorted_parts more parts.1
 
 abbrev always : Bool
 always = true
@@ -267,7 +297,7 @@ sorted_for at (declares word bound (initialised value more test update) within e
 sorted_for at (begins_left left (target_of iteration over) within) = fits_out _ _ ∙ simp tree_sorts
 sorted_for at (begins_left left (expression_of operators more test update) within) =
     sorted_ForExpr at (Some (listed (applied left operators) more)) test update within
-    ∙ simp (sorted_listed, sorted_applied, and_assoc, and-true)
+    ∙ simp (sorted_listed, sorted_applied, and_assoc)
 sorted_for at (begins_expr first test update within) = sorted_ForExpr at first test update within
 
 pub sorted_Function : (at end : ℕ) (form : FunctionForm) (kind : FunctionKind) (parameters : List Bound)
@@ -307,17 +337,17 @@ layer_body : (x : Tree-F Fits) → fits_layer x expression ≡ true → fits_lay
 layer_body (Tree-F.Function at end form kind parameters rest within) h = form_body form (within body) h
 layer_body _ h = first_of (assumption, grind arith)
 
-pub fits_element : (tree : Tree) → (fits_of tree expression && true) ≡ true → fits_of tree element ≡ true
+pub fits_element : (tree : Tree) → fits_of tree expression ≡ true → fits_of tree element ≡ true
 fits_element tree h =
     fits_out tree element
     ∙ layer_element (map-Tree Tree Fits fits_of (out-Tree tree))
-    (sym (fits_out tree expression) ∙ and_left (fits_of tree expression) true h)
+    (sym (fits_out tree expression) ∙ h)
 
-pub fits_body : (tree : Tree) → (fits_of tree expression && true) ≡ true → fits_of tree body ≡ true
+pub fits_body : (tree : Tree) → fits_of tree expression ≡ true → fits_of tree body ≡ true
 fits_body tree h =
     fits_out tree body
     ∙ layer_body (map-Tree Tree Fits fits_of (out-Tree tree))
-    (sym (fits_out tree expression) ∙ and_left (fits_of tree expression) true h)
+    (sym (fits_out tree expression) ∙ h)
 
 pub fits_next : (tree : Tree) (wanted : Sort) (more : Bool)
     → (fits_of tree wanted && more) ≡ (own_fits (out-Tree tree) wanted && more)
@@ -364,9 +394,18 @@ any_holds (Got v rest) = refl
 any_holds (Stuck cause ts) = refl
 any_holds Deeper = refl
 
-both : (a b : Bool) → a ≡ true → b ≡ true → (a && b) ≡ true
-both true b h i = i
-both false b h i = h
+joined_holds : (no_first some_more a b : Bool) → a ≡ true → b ≡ true → joined no_first some_more a b ≡ true
+joined_holds true some_more a b h i = i
+joined_holds false true a b h i = rw h i
+joined_holds false false a b h i = h
+
+parts_hold : (x : Symbol) (xs : List Symbol) (v : Part Value x) (vs : Parts Value xs) → sorted_part x v ≡ true
+    → sorted_parts xs vs ≡ true
+    → sorted_parts (x ∷ xs) (v, vs) ≡ true
+parts_hold (s.Read m) xs v vs h i =
+    joined_holds (is_treeless m) (has_trees xs) (sorted_value m v) (sorted_parts xs vs) h i
+parts_hold (s.Take wanted) xs v vs h i = i
+parts_hold (s.Tell signal) xs v vs h i = i
 
 module _ (trees : Reader Value)
     (fit : (m : Nonterminal) (ts : List Terminal) → holds (sorted_value m) (trees m ts) ≡ true) where
@@ -381,7 +420,7 @@ module _ (trees : Reader Value)
       then_holds (sorted_part x) (sorted_parts (x ∷ xs)) (read_one trees x ts) _ (one_fits x ts)
       (λ v rest h.
       then_holds (sorted_parts xs) (sorted_parts (x ∷ xs)) (read_all trees xs rest) (λ vs end. Got (v, vs) end)
-      (all_fit_here xs rest) (λ vs end i. both (sorted_part x v) (sorted_parts xs vs) h i))
+      (all_fit_here xs rest) (λ vs end i. parts_hold x xs v vs h i))
 
   row_fits : (m : Nonterminal) (r : Row m) (ts : List Terminal) → SortsRow m r
       → holds (sorted_value m) (by_row trees m r ts) ≡ true

@@ -1,5 +1,5 @@
 -- The sorts of trees: in which places of others each variant stands.
-use Rattle.std.specs.Prelude.{ℕ, Bool, true, false, ◌&&◌, ◌||◌, List, [], ◌∷◌}
+use Rattle.std.specs.Prelude.{Bool, true, false, ◌&&◌, ◌||◌, List, [], ◌∷◌}
 use Rattle.hz_tree.specs.declared.tree.FunctionForm.{FunctionForm}
 use Rattle.hz_tree.specs.declared.tree.FunctionForm.TheVariants as form
 use Rattle.hz_tree.specs.declared.tree.Tree.{Tree, fold-Tree}
