@@ -6,6 +6,7 @@
 #![tactic(auto)]
 
 mod contexts;
+mod declarations;
 mod expressions;
 mod functions;
 mod heads;

@@ -22,38 +22,25 @@ use hz_tree::{
     Role, Signal,
 };
 
-fn arrow_row(
-    stack: &mut Stack,
-    loosest: Level,
-    context: Context,
-    parenthesised: bool,
-) -> Result<(), Stop>
-    ensures { Pushed (step_of (row.arrow_row loosest context parenthesised))
+fn arrow_row(stack: &mut Stack, context: Context, parenthesised: bool) -> Result<(), Stop>
+    ensures { (loosest : Tightness) → Pushed (step_of (row.arrow_row loosest context parenthesised))
         result stack.old stack.new }
 {
-    if parenthesised {
-        stack.push(&[
-            Tell(Signal::Open(NodeKind::Operand, FunctionKind::Arrow)),
-            Tell(Signal::Enter),
-            Read(Params),
-            Read(ArrowSign),
-            Read(ArrowBody(context)),
-            Tell(Signal::Join),
-            Tell(Signal::Close),
-            Tell(Signal::Node(NodeShape::Other)),
-        ])
+    let parameters = if parenthesised {
+        Params
     } else {
-        stack.push(&[
-            Tell(Signal::Open(NodeKind::Operand, FunctionKind::Arrow)),
-            Tell(Signal::Enter),
-            Read(Bound(Role::Parameter)),
-            Read(ArrowSign),
-            Read(ArrowBody(context)),
-            Tell(Signal::Join),
-            Tell(Signal::Close),
-            Tell(Signal::Node(NodeShape::Other)),
-        ])
-    }
+        Bound(Role::Parameter)
+    };
+    stack.push(&[
+        Tell(Signal::Open(NodeKind::Operand, FunctionKind::Arrow)),
+        Tell(Signal::Enter),
+        Read(parameters),
+        Read(ArrowSign),
+        Read(ArrowBody(context)),
+        Tell(Signal::Join),
+        Tell(Signal::Close),
+        Tell(Signal::Node(NodeShape::Other)),
+    ])
 }
 
 /// An operand with an operator before it, or one that begins with none.
@@ -112,7 +99,7 @@ pub fn operation_row(
     ensures { Pushed (step_of (row.operation_row loosest context look)) result stack.old stack.new }
 {
     if is_loosest(loosest) && look.begins_arrow() {
-        arrow_row(stack, loosest, context, look.one.is_paren())
+        arrow_row(stack, context, look.one.is_paren())
     } else {
         let yields = is_loosest(loosest) && context.yields;
         operation_by(stack, loosest, context, yields, look.one)

@@ -2,6 +2,7 @@
 
 ghost use Rattle.hz_tree.specs.grammar.Table.{step_of};
 ghost use Rattle.hz_tree.specs.grammar.PrimaryRows as row;
+ghost use Rattle.hz_tree.specs.declared.nonterminal.Context.{Context as In};
 ghost use Rattle.hz_rows.specs.Pushed.{Pushed};
 
 use crate::contexts::with_in;
@@ -147,8 +148,8 @@ pub fn argument_row(stack: &mut Stack, context: Context, one: Class) -> Result<(
 }
 
 /// A function expression, where `function` stands.
-fn function_expression_row(stack: &mut Stack, context: Context, two: Class) -> Result<(), Stop>
-    ensures { Pushed (step_of (row.function_expression_row context two))
+fn function_expression_row(stack: &mut Stack, two: Class) -> Result<(), Stop>
+    ensures { (context : In) → Pushed (step_of (row.function_expression_row context two))
         result stack.old stack.new }
 {
     match two {
@@ -212,7 +213,7 @@ fn primary_by(stack: &mut Stack, context: Context, look: Look) -> Result<(), Sto
         ]),
         Class::New => new_row(stack, context, look.two),
         Class::Slash | Class::SlashAssign => left_out(OutsideKind::RegExp),
-        Class::Function => function_expression_row(stack, context, look.two),
+        Class::Function => function_expression_row(stack, look.two),
         Class::LeftBracket => stack.push(&[
             Tell(Signal::Begin(NodeKind::Operand)),
             Take(Class::LeftBracket),

@@ -1,4 +1,4 @@
-//! Items and statements (ECMA-262, 14 and 16).
+//! The script, and statements (ECMA-262, 14 and 16).
 
 ghost use Rattle.std.specs.Prelude.{[], ◌∷◌};
 ghost use Rattle.hz_tree.specs.grammar.Table.{pushes, step_of};
@@ -10,14 +10,13 @@ use crate::contexts::of_script;
 use crate::stack::Stack;
 use crate::stop::{Stop, left_out, stuck};
 use hz_tree::Nonterminal::{
-    Bind, Binds, Block, Body, Bound, CatchClause, CatchName, Clauses, Else, Expr, Finally, ForOpen,
-    Handlers, Head, Initial, Item, Items, Label, LooseSemi, MoreBinds, Operation, Params,
-    ReturnValue, Semi, Statement, ThrowValue,
+    Binds, Block, Bound, CatchClause, CatchName, Clauses, Else, Expr, Finally, ForOpen, Handlers,
+    Head, Items, Label, LooseSemi, ReturnValue, Semi, Statement, ThrowValue,
 };
 use hz_tree::Symbol::{Read, Take, Tell};
 use hz_tree::{
-    BadKind, Class, Context, DeclarationWord, FunctionKind, Jump, Level, Look, NodeKind,
-    Nonterminal, OutsideKind, Role, ScopeKind, Signal, Symbol,
+    BadKind, Class, Context, DeclarationWord, Jump, Look, NodeKind, Nonterminal, OutsideKind, Role,
+    ScopeKind, Signal, Symbol,
 };
 
 pub fn script_row(stack: &mut Stack) -> Result<(), Stop>
@@ -28,84 +27,6 @@ pub fn script_row(stack: &mut Stack) -> Result<(), Stop>
         Read(Items(of_script())),
         Take(Class::End),
     ])
-}
-
-pub fn items_row(stack: &mut Stack, context: Context, one: Class) -> Result<(), Stop>
-    ensures { Pushed (step_of (row.items_row context one)) result stack.old stack.new }
-{
-    match one {
-        Class::RightBrace | Class::Case | Class::Default | Class::End => Ok(()),
-        _ => stack.push(&[Read(Item(context)), Read(Items(context))]),
-    }
-}
-
-/// A declaration of a function, where `function` stands.
-fn declaration_row(stack: &mut Stack, context: Context, two: Class) -> Result<(), Stop>
-    ensures { Pushed (step_of (row.declaration_row context two)) result stack.old stack.new }
-{
-    match two {
-        Class::Star => stack.push(&[
-            Tell(Signal::Open(NodeKind::Statement, FunctionKind::Generator)),
-            Take(Class::Function),
-            Take(Class::Star),
-            Read(Bound(Role::Function)),
-            Tell(Signal::Enter),
-            Read(Params),
-            Read(Body(true)),
-            Tell(Signal::Join),
-            Tell(Signal::Close),
-            Tell(Signal::End(NodeKind::Statement)),
-        ]),
-        _ => stack.push(&[
-            Tell(Signal::Open(NodeKind::Statement, FunctionKind::Function)),
-            Take(Class::Function),
-            Read(Bound(Role::Function)),
-            Tell(Signal::Enter),
-            Read(Params),
-            Read(Body(false)),
-            Tell(Signal::Join),
-            Tell(Signal::Close),
-            Tell(Signal::End(NodeKind::Statement)),
-        ]),
-    }
-}
-
-pub fn item_row(stack: &mut Stack, context: Context, one: Class, two: Class) -> Result<(), Stop>
-    ensures { Pushed (step_of (row.item_row context one two)) result stack.old stack.new }
-{
-    match one {
-        Class::Function => declaration_row(stack, context, two),
-        Class::Let => stack.push(&[
-            Tell(Signal::Begin(NodeKind::Statement)),
-            Take(Class::Let),
-            Read(Binds(DeclarationWord::Let, context)),
-            Read(Semi),
-            Tell(Signal::End(NodeKind::Statement)),
-        ]),
-        Class::Const => stack.push(&[
-            Tell(Signal::Begin(NodeKind::Statement)),
-            Take(Class::Const),
-            Read(Binds(DeclarationWord::Const, context)),
-            Read(Semi),
-            Tell(Signal::End(NodeKind::Statement)),
-        ]),
-        _ => stack.push(&[Read(Statement(context))]),
-    }
-}
-
-pub fn bound_row(stack: &mut Stack, role: Role, look: Look) -> Result<(), Stop>
-    ensures { Pushed (step_of (row.bound_row role look)) result stack.old stack.new }
-{
-    match look.one {
-        Class::LeftBracket | Class::LeftBrace => left_out(OutsideKind::Pattern),
-        one => {
-            if one.is_name() {
-                stack.push(&[Tell(Signal::Declare(role)), Take(Class::Name)])
-            } else {
-                stuck(look)
-            }
-        }
-    }
 }
 
 pub fn semi_row(stack: &mut Stack, look: Look) -> Result<(), Stop>
@@ -148,68 +69,8 @@ pub fn block_row(stack: &mut Stack, context: Context) -> Result<(), Stop>
     ])
 }
 
-pub fn binds_row(stack: &mut Stack, word: DeclarationWord, context: Context) -> Result<(), Stop>
-    ensures { Pushed (step_of (row.binds_row word context)) result stack.old stack.new }
-{
-    stack.push(&[Read(Bind(word, context)), Read(MoreBinds(word, context))])
-}
-
-pub fn bind_row(stack: &mut Stack, word: DeclarationWord, context: Context) -> Result<(), Stop>
-    ensures { Pushed (step_of (row.bind_row word context)) result stack.old stack.new }
-{
-    stack.push(&[
-        Read(Bound(Role::Variable(word))),
-        Read(Initial(word, context)),
-    ])
-}
-
-/// A name without a value.
-fn no_value(stack: &mut Stack, word: DeclarationWord, context: Context) -> Result<(), Stop>
-    ensures { Pushed (step_of (row.no_value word context)) result stack.old stack.new }
-{
-    let _context = context;
-    match word {
-        DeclarationWord::Const => stack.push(&[Tell(Signal::Bare)]),
-        DeclarationWord::Var => Ok(()),
-        DeclarationWord::Let => Ok(()),
-    }
-}
-
-pub fn initial_row(
-    stack: &mut Stack,
-    word: DeclarationWord,
-    context: Context,
-    one: Class,
-) -> Result<(), Stop>
-    ensures { Pushed (step_of (row.initial_row word context one)) result stack.old stack.new }
-{
-    match one {
-        Class::Assign => stack.push(&[
-            Take(Class::Assign),
-            Read(Operation(Level::Assignment, context)),
-            Tell(Signal::Join),
-        ]),
-        _ => no_value(stack, word, context),
-    }
-}
-
-pub fn more_binds_row(
-    stack: &mut Stack,
-    word: DeclarationWord,
-    context: Context,
-    one: Class,
-) -> Result<(), Stop>
-    ensures { Pushed (step_of (row.more_binds_row word context one))
-        result stack.old stack.new }
-{
-    match one {
-        Class::Comma => stack.push(&[Take(Class::Comma), Read(Binds(word, context))]),
-        _ => Ok(()),
-    }
-}
-
 /// A statement that is its word, what that stands before, and a semicolon.
-fn simple_statement(stack: &mut Stack, word: Class, what: Nonterminal) -> Result<(), Stop>
+pub fn simple_statement(stack: &mut Stack, word: Class, what: Nonterminal) -> Result<(), Stop>
     ensures { Pushed (pushes (Symbol.Tell (Signal.Begin NodeKind.Statement) ∷ Symbol.Take word
         ∷ Symbol.Read what ∷ Symbol.Read Nonterminal.Semi
         ∷ Symbol.Tell (Signal.End NodeKind.Statement) ∷ [])) result stack.old stack.new }

@@ -3,7 +3,9 @@ ghost use Rattle.hz_rows.specs.Pushed.{Pushed};
 
 use crate::stack::Stack;
 use crate::stop::Stop;
-use crate::{expressions, functions, heads, operators, primaries, properties, statements};
+use crate::{
+    declarations, expressions, functions, heads, operators, primaries, properties, statements,
+};
 use hz_tree::{Look, Nonterminal};
 
 /// Expands a nonterminal that was taken from the stack, where the next two tokens are as in `look`. The rows are
@@ -17,19 +19,19 @@ pub fn expand(stack: &mut Stack, nonterminal: Nonterminal, look: Look) -> Result
 {
     match nonterminal {
         Nonterminal::Script => statements::script_row(stack),
-        Nonterminal::Items(context) => statements::items_row(stack, context, look.one),
-        Nonterminal::Item(context) => statements::item_row(stack, context, look.one, look.two),
+        Nonterminal::Items(context) => declarations::items_row(stack, context, look.one),
+        Nonterminal::Item(context) => declarations::item_row(stack, context, look.one, look.two),
         Nonterminal::Statement(context) => statements::statement_row(stack, context, look),
         Nonterminal::Block(context) => statements::block_row(stack, context),
-        Nonterminal::Binds(word, context) => statements::binds_row(stack, word, context),
-        Nonterminal::Bind(word, context) => statements::bind_row(stack, word, context),
+        Nonterminal::Binds(word, context) => declarations::binds_row(stack, word, context),
+        Nonterminal::Bind(word, context) => declarations::bind_row(stack, word, context),
         Nonterminal::MoreBinds(word, context) => {
-            statements::more_binds_row(stack, word, context, look.one)
+            declarations::more_binds_row(stack, word, context, look.one)
         }
         Nonterminal::Initial(word, context) => {
-            statements::initial_row(stack, word, context, look.one)
+            declarations::initial_row(stack, word, context, look.one)
         }
-        Nonterminal::Bound(role) => statements::bound_row(stack, role, look),
+        Nonterminal::Bound(role) => declarations::bound_row(stack, role, look),
         Nonterminal::Semi => statements::semi_row(stack, look),
         Nonterminal::LooseSemi => statements::loose_semi_row(stack, look.one),
         Nonterminal::Else(context) => statements::else_row(stack, context, look.one),
