@@ -1,5 +1,5 @@
 -- The errors of declarations that the events of a script tell are those of its tree.
-use Rattle.std.proofs.Common.{◌≡◌, ℕ, true, false, List, [], ◌∷◌, map, Some, None, refl, subst, sym}
+use Rattle.std.proofs.Common.{Bool, ◌≡◌, ℕ, true, false, List, [], ◌∷◌, map, Some, None, refl, subst, sym}
 use Rattle.std.proofs.Common.{ap, ◌∙◌}
 use Rattle.hz_tree.specs.declared.scope.ScopeKind.TheVariants as scope
 use Rattle.hz_tree.specs.declared.tree.FunctionForm.TheVariants as form
@@ -25,7 +25,7 @@ use Rattle.hz_errors.proofs.DeclaredActs.{Acts, acts_none, acts_both, state, kno
 use Rattle.hz_errors.proofs.DeclaredHeard.{heard, after_heard, heard_all, heard_own, heard_layer}
 use Rattle.hz_errors.proofs.DeclaredNames.{acts_none_bound, acts_bound, acts_block, acts_switch, acts_for}
 use Rattle.hz_errors.proofs.DeclaredNames.{acts_for_declared, acts_catch, acts_function, acts_body}
-use Rattle.hz_errors.proofs.Fits.{Fit, Parts, first_part, more_parts, list, parts_fit}
+use Rattle.hz_laws.proofs.Fits.{Fit, Parts, no_script, has_method_parts, first_part, more_parts, list, parts_fit}
 
 -- ---- all trees but scripts
 
@@ -39,10 +39,10 @@ Proved = (tree : Tree) × TreeActs tree
 abbrev trees : List Proved → List Tree
 trees = map (λ e. e.0)
 
-child : (e : Proved) → Fit (fits_of e.0) → Acts (heard (events_of e.0)) (declaring_of e.0)
-child e h = e.1 h.sort h.no_script h.holds
+child : {may : Bool} (e : Proved) → Fit may (fits_of e.0) → Acts (heard (events_of e.0)) (declaring_of e.0)
+child e h = e.1 h.sort (no_script h) h.holds
 
-acts_all : (ts : List Proved) → Parts (map fits_of (trees ts))
+acts_all : {may : Bool} (ts : List Proved) → Parts may (map fits_of (trees ts))
     → Acts (told_all (map heard (map events_of (trees ts)))) (all_together (map declaring_of (trees ts)))
 acts_all [] h = acts_none
 acts_all (e ∷ more) h = acts_both (child e (first_part h)) (acts_all more (more_parts h))
@@ -54,21 +54,21 @@ children_twice f y = children_map f (map-Tree Proved Tree (λ e. e.0) y) ∙ ap 
 abbrev mapped : {A : Type 0} → (Tree → A) → Tree-F Proved → Tree-F A
 mapped {A} f y = map-Tree Tree A f (map-Tree Proved Tree (λ e. e.0) y)
 
-acts_children : (events : List (List Event)) (within : List Declaring) (y : Tree-F Proved)
+acts_children : {may : Bool} (events : List (List Event)) (within : List Declaring) (y : Tree-F Proved)
     → events ≡ map events_of (trees (node y).children) → within ≡ map declaring_of (trees (node y).children)
-    → Parts (map fits_of (trees (node y).children))
+    → Parts may (map fits_of (trees (node y).children))
     → Acts (told_all (map heard events)) (all_together within)
 acts_children events within y h i fit = rw (h, i) (acts_all (node y).children fit)
 
-acts_parts : (y : Tree-F Proved) → Parts (node (mapped fits_of y)).children
+acts_parts : {may : Bool} (y : Tree-F Proved) → Parts may (node (mapped fits_of y)).children
     → Acts (told_all (map heard (node (mapped events_of y)).children))
     (all_together (node (mapped declaring_of y)).children)
-acts_parts y fit =
+acts_parts {may} y fit =
     acts_children (node (mapped events_of y)).children (node (mapped declaring_of y)).children y
-    (children_twice events_of y) (children_twice declaring_of y) (subst Parts (children_twice fits_of y) fit)
+    (children_twice events_of y) (children_twice declaring_of y) (subst (Parts may) (children_twice fits_of y) fit)
 
-acts_own : (y : Tree-F Proved) → Parts (node (mapped fits_of y)).children → (sort : Sort) → is_script sort ≡ false
-    → fits_layer (mapped fits_of y) sort ≡ true
+acts_own : {may : Bool} (y : Tree-F Proved) → Parts may (node (mapped fits_of y)).children → (sort : Sort)
+    → is_script sort ≡ false → fits_layer (mapped fits_of y) sort ≡ true
     → Acts (heard_own (mapped events_of y)) (declaring_layer (mapped declaring_of y))
 acts_own (Tree-F.Script at items) fit sort h i =
     let e : is_script sort ≡ true = and_left (is_script sort) (all_fit statement (map fits_of (trees items))) i in
@@ -114,12 +114,12 @@ tree_acts =
 
 -- ---- scripts
 
-items_act : (items : List Tree) → Parts (map fits_of items)
+items_act : {may : Bool} (items : List Tree) → Parts may (map fits_of items)
     → Acts (told_all (map heard (map events_of items))) (all_together (map declaring_of items))
 items_act [] h = acts_none
-items_act (tree ∷ more) h =
-    let fit : Fit (fits_of tree) = first_part h in
-    acts_both (tree_acts tree fit.sort fit.no_script fit.holds) (items_act more (more_parts h))
+items_act {may} (tree ∷ more) h =
+    let fit : Fit may (fits_of tree) = first_part h in
+    acts_both (tree_acts tree fit.sort (no_script fit) fit.holds) (items_act more (more_parts h))
 
 abbrev script_site : Site
 script_site = record { holds_vars = true; of_script = true }
@@ -136,7 +136,7 @@ script_state d bound =
     state (script_site ∷ []) (knows d.errors (map (declared_at script_site) d.declarations) script_known) bound
     (globals_noted script_site d.declarations None)
 
-script_after : (at : ℕ) (items : List Tree) (h : Parts (map fits_of items))
+script_after : {may : Bool} (at : ℕ) (items : List Tree) (h : Parts may (map fits_of items))
     → after begun (own_events (Tree-F.Script at items))
     ≡ script_state (all_together (map declaring_of items)) ((items_act items h).bound 0)
 script_after at items h =
@@ -152,7 +152,7 @@ IsTold x =
     ≡ least_of order_of_early (declaring_layer (map-Tree Tree Declaring declaring_of x)).errors)
     × ((after begun (own_events x)).profile ≡ least_of order_of_profile (global_errors (script_declarations x)))
 
-script_told : (at : ℕ) (items : List Tree) → Parts (map fits_of items) → IsTold (Tree-F.Script at items)
+script_told : {may : Bool} (at : ℕ) (items : List Tree) → Parts may (map fits_of items) → IsTold (Tree-F.Script at items)
 script_told at items h = (
   ap (λ d. d.known.least) (script_after at items h),
   ap (λ d. d.profile) (script_after at items h)
@@ -161,7 +161,7 @@ script_told at items h = (
 )
 
 layer_told : (x : Tree-F Tree) → fits_layer (map-Tree Tree Fits fits_of x) script ≡ true → IsTold x
-layer_told (Tree-F.Script at items) h = script_told at items (list statement (map fits_of items) refl h)
+layer_told (Tree-F.Script at items) h = script_told {may = true} at items (list statement (map fits_of items) refl h)
 layer_told (Tree-F.Function at end (form.Declaration bound) kind parameters rest body) h = absurd (cc)
 layer_told (Tree-F.Function at end (form.Expression name) kind parameters rest body) h = absurd (cc)
 layer_told (Tree-F.Function at end form.Arrow kind parameters rest body) h = absurd (cc)

@@ -12,7 +12,7 @@ use Rattle.hz_tree.specs.grammar.Signals.{Event, Plain, Placed, Texted, Named, W
 use Rattle.hz_tree.specs.trees.Events.{told_all, node_of, told_jump, told_layer}
 use Rattle.hz_tree.specs.trees.Places.{node}
 use Rattle.hz_errors.specs.Labels.{Labelling, happens, after}
-use Rattle.hz_errors.proofs.Hearing.{PassesOver, heard_by, hearing_laws}
+use Rattle.hz_laws.proofs.Hearing.{PassesOver, heard_by, hearing_laws}
 
 -- whether the beginning and the end of a node tell of labels and jumps
 abbrev pub placed_kind : NodeKind → (at : ℕ) → List Event

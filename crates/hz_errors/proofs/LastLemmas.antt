@@ -1,9 +1,10 @@
 -- The last items of a list, which come first where it is read backwards.
 use Rattle.std.proofs.Common.{◌≡◌, ℕ, ◌-◌, ◌<◌, ◌≤◌, List, [], ◌∷◌, ◌++◌, length, map, reverse, get_or, set, Some, None}
-use Rattle.std.proofs.Common.{refl, ap, ◌∙◌, subst, arith, length-append}
+use Rattle.std.proofs.Common.{refl, ap, ◌∙◌, subst, arith, length-append, drop}
 use Rattle.std.proofs.lemmas.List.{reverse-append, reverse-reverse, length-reverse, get_or-reverse}
 use Rattle.std.proofs.Math.Seq.{set-append_seam}
 use Rattle.hz_errors.specs.declared.operand_entries.Entry.{Entry as Kept}
+use Rattle.hz_errors.specs.declared.entries.Run.{Run}
 use Rattle.hz_errors.specs.declared.functions.Opened.{Opened}
 use Rattle.hz_errors.specs.Operands.{change_first, change_innermost, place_below}
 use Rattle.hz_errors.specs.OperandEntries.{entry_seen, entries_seen}
@@ -30,6 +31,29 @@ set_last : {A : Type 0} (xs : List A) (x : A) → reverse (set xs (length xs - 1
 set_last xs x =
     subst (λ zs. reverse (set zs (length zs - 1) x) ≡ with_first x (reverse xs)) (reverse-reverse xs)
     (set_reversed (reverse xs) x)
+
+-- ---- runs
+
+first_is : (runs : List Run) (d : Run) → 0 < length runs → runs ≡ get_or runs 0 d ∷ drop 1 runs
+first_is [] d h = absurd (omega arith)
+first_is (run ∷ below) d h = refl
+
+-- the uppermost run
+pub last_run : (runs : List Run) (count : ℕ) (d : Run) → count ≡ length runs → 0 < count
+    → reverse runs ≡ get_or runs (count - 1) d ∷ drop 1 (reverse runs)
+last_run runs count d long some =
+    first_is (reverse runs) d (omega (arith, length-reverse runs))
+    ∙ ap (λ run. run ∷ drop 1 (reverse runs)) (get_or-reverse runs 0 d (omega arith)
+    ∙ ap (λ k. get_or runs k d) (omega arith))
+
+-- the uppermost run becomes another
+pub set_last_run : (runs : List Run) (count : ℕ) (run : Run) → count ≡ length runs → 0 < count
+    → reverse (set runs (count - 1) run) ≡ run ∷ drop 1 (reverse runs)
+set_last_run runs count run long some =
+    ap (λ n. reverse (set runs (n - 1) run)) long ∙ set_last runs run
+    ∙ ap (with_first run) (last_run runs count run long some)
+
+-- ---- functions and entries
 
 first_function : (f : Opened) (fs : List Opened) → with_first f fs ≡ change_innermost (λ g. f) fs
 first_function f [] = refl

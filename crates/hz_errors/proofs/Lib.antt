@@ -1,4 +1,3 @@
-pub mod Hearing
 pub mod LabelsActs
 pub mod LabelsFound
 pub mod LabelsHeard
@@ -12,7 +11,6 @@ pub mod SiteLemmas
 pub mod DeclaredActs
 pub mod DeclaredHeard
 pub mod DeclaredNames
-pub mod Fits
 pub mod DeclarationLaws
 pub mod ReceiversHeard
 pub mod ReceiversLaw

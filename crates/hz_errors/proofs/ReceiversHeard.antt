@@ -9,7 +9,7 @@ use Rattle.hz_tree.specs.grammar.Signals.{Event, Plain, Placed, Texted, Named, W
 use Rattle.hz_tree.specs.trees.Events.{told_all, node_of, told_layer}
 use Rattle.hz_tree.specs.trees.Places.{node}
 use Rattle.hz_errors.specs.Receivers.{Receiving, happens, after}
-use Rattle.hz_errors.proofs.Hearing.{PassesOver, heard_by, hearing_laws}
+use Rattle.hz_laws.proofs.Hearing.{PassesOver, heard_by, hearing_laws}
 
 abbrev pub heard_one : Event → List Event
 heard_one (Placed (tell.Open node kind) at) = Placed (tell.Open node kind) at ∷ []

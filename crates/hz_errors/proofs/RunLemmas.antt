@@ -233,5 +233,19 @@ shown_node places runs run next h at len end =
     ∙ ap (λ entries. record { at = run.at; levels = run.at ∷ run_levels run.len run.end places } ∷ entries)
     (shown_same runs (run.end - run.len) places more h.2 (λ k i. same k (omega arith)))
 
+-- one more entry, of one node
+pub shown_leaf : (places : List ℕ) (runs : List Run) (at end : ℕ) → AreStacked (length places) runs
+    → end ≡ length places + 1
+    → shown (record { at = at; len = 1; end = end } ∷ runs) (places ++ at ∷ [])
+    ≡ record { at = at; levels = at ∷ [] } ∷ shown runs places
+shown_leaf places runs at end h e =
+    let more : List ℕ = places ++ at ∷ [] in
+    let place : end - 1 ≡ length places = omega arith in
+    let same : KeepsBelow (length places) places more = λ k i. get_or_append_left places (at ∷ []) 0 k i in
+    ap (λ n. record { at = at; levels = get_or more n 0 ∷ [] } ∷ shown runs more) place
+    ∙ ap (λ n. record { at = at; levels = n ∷ [] } ∷ shown runs more) (get_or-append_seam places at [] 0)
+    ∙ ap (λ entries. record { at = at; levels = at ∷ [] } ∷ entries)
+    (shown_same runs (length places) places more h same)
+
 pub reversed : {A : Type 0} (xs ys : List A) (x : A) → ys ≡ xs ++ x ∷ [] → reverse ys ≡ x ∷ reverse xs
 reversed xs ys x h = ap reverse h ∙ reverse-append xs (x ∷ [])

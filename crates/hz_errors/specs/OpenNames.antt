@@ -1,5 +1,6 @@
 -- The labels that are open in a function, as the program keeps them.
 use Rattle.std.specs.Prelude.{◌≡◌, ℕ, ◌≤◌, Bool, List, [], ◌∷◌, ◌++◌, length, map, take, drop, reverse}
+use Rattle.std.specs.Prelude.{Option, Some, None}
 use Rattle.hz_tree.specs.tokens.Text.{Text}
 use Rattle.hz_errors.specs.declared.open_labels.Label.{Label}
 use Rattle.hz_errors.specs.Labels.{OpenLabel, labelled, loop_names}
@@ -11,6 +12,11 @@ pub record OpenNames : Type 0 where
 
 abbrev pub no_names : OpenNames
 no_names = record { fresh = []; labels = [] }
+
+-- a function without labels keeps none
+abbrev pub names_in : Option OpenNames → OpenNames
+names_in None = no_names
+names_in (Some n) = n
 
 abbrev pub settled_names : (on_loop : Bool) → OpenNames → OpenNames
 settled_names on_loop n = record { fresh = []; labels = labelled on_loop n.fresh ++ n.labels }

@@ -1,11 +1,8 @@
 use crate::eval::is_eval;
 use crate::least::with_profile;
-use crate::told::Told;
 use hz_early::{EarlySet, ScopeEvent};
 use hz_list::Memory;
-use hz_tree::{
-    BindingKind, DeclarationWord, EarlyKind, NodeKind, ProfileKind, Role, ScopeKind, Signal,
-};
+use hz_tree::{BindingKind, DeclarationWord, EarlyKind, NodeKind, ProfileKind, Role, ScopeKind};
 use std::alloc::Global;
 use std::marker::Model;
 
@@ -45,10 +42,9 @@ impl<'a> Model for Declarations<'a> {
 
 impl<'a> Declarations<'a> {
     ghost use Rattle.std.specs.Prelude.{◌≡◌, ◌∷◌, [], OnOk};
-    ghost use Rattle.hz_tree.specs.grammar.Signals.{event};
     ghost use Rattle.hz_tree.specs.errors.Declarations.{declares};
     ghost use Rattle.hz_early.specs.Events.{with_declaration};
-    ghost use Rattle.hz_errors.specs.Declarations.{begun, happens, opens, closes, begins, innermost as innermost_of};
+    ghost use Rattle.hz_errors.specs.Declarations.{begun, opens, closes, begins, innermost as innermost_of};
     ghost use Rattle.hz_errors.specs.Declarations.{bind as with_bound, with_name, declare as with_declared, bare};
     ghost use Rattle.hz_errors.specs.Declarations.{globals_noted};
 
@@ -61,22 +57,6 @@ impl<'a> Declarations<'a> {
             sites: Vec::new(alloc),
             bound: 0,
             profile: None,
-        }
-    }
-
-    /// Goes on by what the grammar tells.
-    pub fn tell(&mut self, signal: Signal, told: &Told<'a>) -> Result<(), Memory>
-        ensures { OnOk result (self.new ≡ happens self.old (event signal told.now)) }
-    {
-        match signal {
-            Signal::Begin(kind) => self.begin(kind),
-            Signal::Scope => self.open(ScopeKind::Block),
-            Signal::ScopeHere(kind) => self.open(kind),
-            Signal::Enter => self.open(ScopeKind::Function),
-            Signal::EndScope | Signal::Close => self.close(),
-            Signal::Declare(role) => self.declare(role, told.text, told.at),
-            Signal::Bare => self.find_bare(),
-            _ => Ok(()),
         }
     }
 
@@ -94,7 +74,8 @@ impl<'a> Declarations<'a> {
         self.profile
     }
 
-    fn begin(&mut self, kind: NodeKind) -> Result<(), Memory>
+    /// A node of this kind begins.
+    pub fn begin(&mut self, kind: NodeKind) -> Result<(), Memory>
         ensures { OnOk result (self.new ≡ begins kind self.old) }
     {
         match kind {
@@ -103,7 +84,8 @@ impl<'a> Declarations<'a> {
         }
     }
 
-    fn open(&mut self, kind: ScopeKind) -> Result<(), Memory>
+    /// A scope of this kind begins.
+    pub fn open(&mut self, kind: ScopeKind) -> Result<(), Memory>
         ensures { OnOk result (self.new ≡ opens kind self.old) }
     {
         let site = site_in(kind, self.innermost());
@@ -112,7 +94,8 @@ impl<'a> Declarations<'a> {
         Ok(())
     }
 
-    fn close(&mut self) -> Result<(), Memory>
+    /// The innermost scope ends.
+    pub fn close(&mut self) -> Result<(), Memory>
         ensures { OnOk result (self.new ≡ closes self.old) }
     {
         self.scopes.event(ScopeEvent::Close)?;
@@ -120,7 +103,8 @@ impl<'a> Declarations<'a> {
         Ok(())
     }
 
-    fn declare(&mut self, role: Role, name: &'a [u8], at: usize) -> Result<(), Memory>
+    /// A name is bound.
+    pub fn declare(&mut self, role: Role, name: &'a [u8], at: usize) -> Result<(), Memory>
         ensures { OnOk result (self.new ≡ with_declared role (record { at = at; name = name.now }) self.old) }
     {
         self.bind(name, at)?;
@@ -157,7 +141,8 @@ impl<'a> Declarations<'a> {
         self.scopes.event(ScopeEvent::Declare { kind, name, at })
     }
 
-    fn find_bare(&mut self) -> Result<(), Memory>
+    /// The name that was bound last is a `const` without a value.
+    pub fn find_bare(&mut self) -> Result<(), Memory>
         ensures { OnOk result (self.new ≡ bare self.old) }
     {
         self.scopes.event(ScopeEvent::Found(EarlyKind::ConstWithoutValue, self.bound))

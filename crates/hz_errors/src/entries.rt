@@ -85,6 +85,16 @@ impl Entries {
         Ok(())
     }
 
+    /// One more entry, of one node.
+    pub fn leaf(&mut self, at: usize) -> Result<(), Memory>
+        ensures { OnOk result (self.new ≡ record { at = at; levels = at ∷ [] } ∷ self.old) }
+    {
+        self.places.push(at)?;
+        let end = self.places.len();
+        self.runs.push(Run { at, len: 1, end })?;
+        Ok(())
+    }
+
     /// The uppermost entry is one node more, at its place.
     pub fn node(&mut self) -> Result<(), Memory>
         ensures { OnOk result (self.new ≡ node_entries self.old) }
@@ -104,18 +114,16 @@ impl Entries {
     }
 
     /// The uppermost entry goes into the one below it.
-    pub fn join(&mut self) -> Result<(), Memory>
-        ensures { OnOk result (self.new ≡ joined_entries self.old) }
+    pub fn join(&mut self)
+        ensures { self.new ≡ joined_entries self.old }
     {
-        let Some(top) = self.runs.pop() else {
-            return Ok(());
-        };
-        let Some(below) = self.runs.pop() else {
-            return Ok(());
-        };
-        let run = merge(&mut self.places, below, top);
-        self.runs.push(run)?;
-        Ok(())
+        if let Some(top) = self.runs.pop() {
+            let count = self.runs.len();
+            if 0 < count {
+                let below = self.runs[count - 1];
+                self.runs[count - 1] = merge(&mut self.places, below, top);
+            }
+        }
     }
 }
 

@@ -1,8 +1,7 @@
 use crate::least::with_early;
 use crate::open_body::OpenBody;
-use crate::told::Told;
 use hz_list::Memory;
-use hz_tree::{EarlyKind, Jump, NodeKind, Signal};
+use hz_tree::{EarlyKind, Jump, NodeKind};
 use std::alloc::Global;
 use std::marker::Model;
 use std::mem;
@@ -40,8 +39,7 @@ impl<'a> Model for Labels<'a> {
 
 impl<'a> Labels<'a> {
     ghost use Rattle.std.specs.Prelude.{◌≡◌, Some, None, OnOk};
-    ghost use Rattle.hz_tree.specs.grammar.Signals.{event};
-    ghost use Rattle.hz_errors.specs.Labels.{begun, happens, enters, leaves, opens, closes, labels, jumps};
+    ghost use Rattle.hz_errors.specs.Labels.{begun, enters, leaves, opens, closes, labels, jumps};
 
     /// Nothing is open, and nothing is found. No memory is taken.
     pub fn new(alloc: Global) -> Labels<'a>
@@ -50,37 +48,9 @@ impl<'a> Labels<'a> {
         Labels {
             alloc,
             begun: 0,
-            body: OpenBody::new(alloc),
+            body: OpenBody::new(),
             outer: Vec::new(alloc),
             least: None,
-        }
-    }
-
-    /// Goes on by what the grammar tells.
-    pub fn tell(&mut self, signal: Signal, told: &Told<'a>) -> Result<(), Memory>
-        ensures { OnOk result (self.new ≡ happens self.old (event signal told.now)) }
-    {
-        match signal {
-            Signal::Begin(kind) => self.begin(kind, told.at),
-            Signal::End(kind) => {
-                self.end(kind);
-                Ok(())
-            }
-            Signal::Open(_, _) => self.open(),
-            Signal::Close => {
-                self.close();
-                Ok(())
-            }
-            Signal::Label => self.label(told.text),
-            Signal::Jump(jump) => {
-                self.jump(jump);
-                Ok(())
-            }
-            Signal::JumpTo(jump) => {
-                self.jump_to(jump, told.text);
-                Ok(())
-            }
-            _ => Ok(()),
         }
     }
 
@@ -91,7 +61,8 @@ impl<'a> Labels<'a> {
         self.least
     }
 
-    fn begin(&mut self, kind: NodeKind, at: usize) -> Result<(), Memory>
+    /// A node of this kind begins.
+    pub fn begin(&mut self, kind: NodeKind, at: usize) -> Result<(), Memory>
         ensures { OnOk result (self.new ≡ enters kind at self.old) }
     {
         match kind {
@@ -105,7 +76,8 @@ impl<'a> Labels<'a> {
         Ok(())
     }
 
-    fn end(&mut self, kind: NodeKind)
+    /// A node of this kind ends.
+    pub fn end(&mut self, kind: NodeKind)
         ensures { self.new ≡ leaves kind self.old }
     {
         match kind {
@@ -116,16 +88,18 @@ impl<'a> Labels<'a> {
         }
     }
 
-    fn open(&mut self) -> Result<(), Memory>
+    /// A function begins.
+    pub fn open(&mut self) -> Result<(), Memory>
         ensures { OnOk result (self.new ≡ opens self.old) }
     {
         self.body.begin_statement()?;
-        let outer = mem::replace(&mut self.body, OpenBody::new(self.alloc));
+        let outer = mem::replace(&mut self.body, OpenBody::new());
         self.outer.push(outer)?;
         Ok(())
     }
 
-    fn close(&mut self)
+    /// The innermost function ends.
+    pub fn close(&mut self)
         ensures { self.new ≡ closes self.old }
     {
         if let Some(outer) = self.outer.pop() {
@@ -133,16 +107,18 @@ impl<'a> Labels<'a> {
         }
     }
 
-    fn label(&mut self, name: &'a [u8]) -> Result<(), Memory>
+    /// A label begins.
+    pub fn label(&mut self, name: &'a [u8]) -> Result<(), Memory>
         ensures { OnOk result (self.new ≡ labels name.now self.old) }
     {
         if self.body.is_open(name) {
             self.least = with_early(self.least, EarlyKind::DuplicateLabel, self.begun);
         }
-        self.body.begin_label(name)
+        self.body.begin_label(self.alloc, name)
     }
 
-    fn jump(&mut self, jump: Jump)
+    /// A jump without a label.
+    pub fn jump(&mut self, jump: Jump)
         ensures { self.new ≡ jumps jump None self.old }
     {
         if !self.body.leads(jump) {
@@ -150,7 +126,8 @@ impl<'a> Labels<'a> {
         }
     }
 
-    fn jump_to(&mut self, jump: Jump, name: &[u8])
+    /// A jump with a label.
+    pub fn jump_to(&mut self, jump: Jump, name: &[u8])
         ensures { self.new ≡ jumps jump (Some name.now) self.old }
     {
         if !self.body.leads_to(jump, name) {

@@ -1,8 +1,7 @@
 use crate::entries::Entries;
 use crate::limit::with_limit;
-use crate::told::Told;
 use hz_list::Memory;
-use hz_tree::{LimitKind, Role, Signal};
+use hz_tree::LimitKind;
 use std::alloc::Global;
 use std::marker::Model;
 
@@ -30,8 +29,7 @@ impl Model for Levels {
 
 impl Levels {
     ghost use Rattle.std.specs.Prelude.{◌≡◌, [], ◌∷◌, OnOk};
-    ghost use Rattle.hz_tree.specs.grammar.Signals.{event};
-    ghost use Rattle.hz_errors.specs.Levels.{begun, happens, least_in, pushed, joined, one_node, opened, closed};
+    ghost use Rattle.hz_errors.specs.Levels.{begun, least_in, pushed, joined, one_node, opened, closed};
     ghost use Rattle.hz_errors.specs.Levels.{counted, argument_at};
 
     /// No node is in hand, and nothing is found. No memory is taken.
@@ -45,37 +43,6 @@ impl Levels {
         }
     }
 
-    /// Goes on by what the grammar tells.
-    pub fn tell(&mut self, signal: Signal, told: &Told<'_>) -> Result<(), Memory>
-        ensures { OnOk result (self.new ≡ happens self.old (event signal told.now)) }
-    {
-        match signal {
-            Signal::Begin(_) => self.begin(told.at),
-            Signal::Open(_, _) => self.open_function(told.at),
-            Signal::Name
-            | Signal::This
-            | Signal::NewTarget
-            | Signal::Literal
-            | Signal::Octal
-            | Signal::Text => self.leaf(told.at),
-            Signal::Rest | Signal::Declare(Role::Parameter) => {
-                self.count(LimitKind::Parameters, told.at);
-                Ok(())
-            }
-            Signal::End(_) => self.end(),
-            Signal::Join => self.join(),
-            Signal::Node(_) => self.node(),
-            Signal::Parentheses => self.parentheses(),
-            Signal::Arguments => self.open(),
-            Signal::Argument => self.argument(),
-            Signal::Call | Signal::Close => {
-                self.close();
-                Ok(())
-            }
-            _ => Ok(()),
-        }
-    }
-
     /// The least place at which a limit is passed, where the events are those of a whole source.
     pub fn least(&self) -> Option<(LimitKind, usize)>
         ensures { result ≡ least_in self.now }
@@ -83,68 +50,76 @@ impl Levels {
         self.entries.nesting(self.least)
     }
 
-    fn begin(&mut self, at: usize) -> Result<(), Memory>
+    /// A node begins.
+    pub fn begin(&mut self, at: usize) -> Result<(), Memory>
         ensures { OnOk result (self.new ≡ pushed at [] self.old) }
     {
         self.entries.push(at)
     }
 
-    fn leaf(&mut self, at: usize) -> Result<(), Memory>
+    /// An operand is one token.
+    pub fn leaf(&mut self, at: usize) -> Result<(), Memory>
         ensures { OnOk result (self.new ≡ pushed at (at ∷ []) self.old) }
     {
-        self.entries.push(at)?;
-        self.entries.node()
+        self.entries.leaf(at)
     }
 
-    fn node(&mut self) -> Result<(), Memory>
+    /// The uppermost entry is one node more.
+    pub fn node(&mut self) -> Result<(), Memory>
         ensures { OnOk result (self.new ≡ one_node self.old) }
     {
         self.entries.node()
     }
 
-    fn join(&mut self) -> Result<(), Memory>
-        ensures { OnOk result (self.new ≡ joined self.old) }
+    /// The uppermost entry goes into the one below it.
+    pub fn join(&mut self)
+        ensures { self.new ≡ joined self.old }
     {
-        self.entries.join()
+        self.entries.join();
     }
 
-    fn end(&mut self) -> Result<(), Memory>
+    /// The uppermost entry is one node more, and goes into the one below it.
+    pub fn end(&mut self) -> Result<(), Memory>
         ensures { OnOk result (self.new ≡ joined (one_node self.old)) }
     {
         self.entries.node()?;
-        self.entries.join()
+        self.entries.join();
+        Ok(())
     }
 
-    fn parentheses(&mut self) -> Result<(), Memory>
+    /// The uppermost entry goes into the one below it, which is one node more.
+    pub fn parentheses(&mut self) -> Result<(), Memory>
         ensures { OnOk result (self.new ≡ one_node (joined self.old)) }
     {
-        self.entries.join()?;
+        self.entries.join();
         self.entries.node()
     }
 
     /// A list of arguments or of parameters begins.
-    fn open(&mut self) -> Result<(), Memory>
+    pub fn open(&mut self) -> Result<(), Memory>
         ensures { OnOk result (self.new ≡ opened self.old) }
     {
         self.counts.push(0)?;
         Ok(())
     }
 
-    fn open_function(&mut self, at: usize) -> Result<(), Memory>
+    /// A function begins.
+    pub fn open_function(&mut self, at: usize) -> Result<(), Memory>
         ensures { OnOk result (self.new ≡ opened (pushed at [] self.old)) }
     {
         self.entries.push(at)?;
         self.open()
     }
 
-    fn close(&mut self)
+    /// The innermost list ends.
+    pub fn close(&mut self)
         ensures { self.new ≡ closed self.old }
     {
         let _ = self.counts.pop();
     }
 
     /// The innermost list has one more, at this place.
-    fn count(&mut self, kind: LimitKind, at: usize)
+    pub fn count(&mut self, kind: LimitKind, at: usize)
         ensures { self.new ≡ counted kind at self.old }
     {
         if count_one(&mut self.counts) {
@@ -153,13 +128,13 @@ impl Levels {
     }
 
     /// The uppermost entry is one more argument.
-    fn argument(&mut self) -> Result<(), Memory>
-        ensures { OnOk result (self.new ≡ joined (argument_at (top_place self.old.entries) self.old)) }
+    pub fn argument(&mut self)
+        ensures { self.new ≡ joined (argument_at (top_place self.old.entries) self.old) }
     {
         if let Some(at) = self.entries.top() {
             self.count(LimitKind::Arguments, at);
         }
-        self.entries.join()
+        self.entries.join();
     }
 }
 

@@ -1,8 +1,9 @@
 // The errors of a source as the events of its reading tell them: early errors, rules of the profile and limits.
 //
-// Each part hears all events and keeps the least of the errors that it finds; `Errors` has all parts. The layer above
-// relies on `Errors::tell`, which goes on by one event, on `Errors::refusal`, and on the law `refusal_of_events`: behind
-// the events of a script, that is the refusal of its tree. How deep a source nests costs memory alone.
+// Each part hears what concerns it and keeps the least of the errors that it finds; `Errors` has all parts, and hands a
+// signal to those that it changes. The layer above relies on `Errors::tell`, which goes on by one event, on
+// `Errors::refusal`, and on the law `refusal_of_events`: behind the events of a script, that is the refusal of its tree.
+// How deep a source nests costs memory alone.
 #![tactic(auto)]
 
 mod declarations;
@@ -23,15 +24,9 @@ mod proto;
 mod receivers;
 mod told;
 
-pub use declarations::{Declarations, Site};
 pub use errors::Errors;
-pub use functions::Opened;
-pub use labels::Labels;
 pub use laws::{
     declarations_are_found, labels_are_found, limits_are_found, operands_are_found,
     receivers_are_found, refusal_of_events,
 };
-pub use levels::Levels;
-pub use operands::Operands;
-pub use receivers::Receivers;
 pub use told::Told;

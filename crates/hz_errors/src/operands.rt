@@ -3,9 +3,8 @@ use crate::functions::{OpenFunctions, Opened};
 use crate::least::{with_early, with_profile};
 use crate::operand_entries::{Entries, Entry, KeptShape};
 use crate::proto::{is_proto, is_proto_text};
-use crate::told::Told;
 use hz_list::Memory;
-use hz_tree::{EarlyKind, NodeKind, NodeShape, ProfileKind, Signal, UnaryOperator};
+use hz_tree::{EarlyKind, NodeKind, NodeShape, ProfileKind, UnaryOperator};
 use std::alloc::Global;
 use std::marker::Model;
 
@@ -31,12 +30,13 @@ impl<'a> Model for Operands<'a> {
 }
 
 impl<'a> Operands<'a> {
-    ghost use Rattle.std.specs.Prelude.{◌≡◌, Some, OnOk, OnErr, IfOk};
-    ghost use Rattle.hz_tree.specs.grammar.Signals.{event};
-    ghost use Rattle.hz_tree.specs.errors.Targets.{plain, Directive, directive_by, target_errors, octal_errors};
-    ghost use Rattle.hz_tree.specs.errors.Targets.{an_early, a_profile, unary_errors};
-    ghost use Rattle.hz_errors.specs.Operands.{begun, happens, noting, pushed, popped, changed, as_node, begins};
-    ghost use Rattle.hz_errors.specs.Operands.{opening, closing, directing, directing_by, errors_of_first};
+    ghost use Rattle.std.specs.Prelude.{◌≡◌, Some, drop, OnOk, OnErr, IfOk};
+    ghost use Rattle.hz_tree.specs.errors.Targets.{plain, another, Directive, directive_by, target_errors, octal_errors};
+    ghost use Rattle.hz_tree.specs.errors.Targets.{an_early, a_profile, unary_errors, member, call, chained};
+    ghost use Rattle.hz_tree.specs.errors.Targets.{is_proto as says_proto};
+    ghost use Rattle.hz_tree.specs.tokens.Values.{text_value};
+    ghost use Rattle.hz_errors.specs.Operands.{begun, noting, pushed, popped, changed, as_node, as_tailed, as_marked};
+    ghost use Rattle.hz_errors.specs.Operands.{begins, directing, directing_by, errors_of_first, with_entries, enclosed};
     ghost use Rattle.hz_errors.specs.Operands.{operator_errors, proto_errors, change_innermost, with_functions};
     ghost use Rattle.hz_errors.specs.Operands.{with_rest, with_prologue, is_strict as says_strict, opened};
     ghost use Rattle.hz_errors.specs.OperandEntries.{shape_seen, operand_seen};
@@ -57,51 +57,6 @@ impl<'a> Operands<'a> {
             early: None,
             profile: None,
         })
-    }
-
-    /// Goes on by what the grammar tells.
-    pub fn tell(&mut self, signal: Signal, told: &Told<'a>) -> Result<(), Memory>
-        ensures { OnOk result (self.new ≡ happens self.old (event signal told.now)) }
-    {
-        match signal {
-            Signal::Begin(kind) => {
-                self.begin(kind);
-                self.push(told.at, KeptShape::Other)?;
-            }
-            Signal::Open(kind, _) => self.open(kind, told.at)?,
-            Signal::Close => self.functions.close(),
-            Signal::Rest => self.set_rest(),
-            Signal::End(_) | Signal::Join | Signal::Argument => self.entries.pop(),
-            Signal::Node(shape) => self.node(shape),
-            Signal::Parentheses => self.entries.enclose(),
-            Signal::Name => self.push(told.at, KeptShape::Name(told.at, told.text))?,
-            Signal::This | Signal::NewTarget | Signal::Literal => {
-                self.push(told.at, KeptShape::Other)?
-            }
-            Signal::Octal => {
-                self.push(told.at, KeptShape::Other)?;
-                self.note_octal(true, told.at);
-            }
-            Signal::Text => {
-                self.push(told.at, KeptShape::Text(told.text))?;
-                self.note_octal(told.octal, told.at);
-            }
-            Signal::Target(pattern) => self.target(pattern),
-            Signal::Unary(operator) => self.unary(operator),
-            Signal::Directive => self.direct(),
-            Signal::Member => self.entries.member(),
-            Signal::Call => self.entries.call(),
-            Signal::Chain => self.entries.chain(),
-            Signal::WordKey => self.entries.mark(is_proto(told.text)),
-            Signal::TextKey => {
-                self.entries.mark(is_proto_text(told.text));
-                self.note_octal(told.octal, told.at);
-            }
-            Signal::OctalKey => self.note_octal(true, told.at),
-            Signal::Valued => self.valued(),
-            _ => {}
-        }
-        Ok(())
     }
 
     /// The least early error that was found.
@@ -142,7 +97,8 @@ impl<'a> Operands<'a> {
         self.profile = with_profile(self.profile, kind, at);
     }
 
-    fn note_octal(&mut self, octal: bool, at: usize)
+    /// A literal stands here, which is octal or not.
+    pub fn note_octal(&mut self, octal: bool, at: usize)
         ensures { self.new ≡ noting (octal_errors octal at) self.old }
     {
         if octal {
@@ -152,13 +108,15 @@ impl<'a> Operands<'a> {
 
     // ---- entries
 
-    fn push(&mut self, at: usize, shape: KeptShape<'a>) -> Result<(), Memory>
+    /// An operand is complete, or a node begins.
+    pub fn push(&mut self, at: usize, shape: KeptShape<'a>) -> Result<(), Memory>
         ensures { OnOk result (self.new ≡ pushed (plain at (shape_seen shape.entry)) self.old) }
     {
         self.entries.push(Entry::plain(at, shape))
     }
 
-    fn node(&mut self, shape: NodeShape)
+    /// The uppermost entry is one node more.
+    pub fn node(&mut self, shape: NodeShape)
         ensures { self.new ≡ changed (as_node shape) self.old }
     {
         match shape {
@@ -166,6 +124,57 @@ impl<'a> Operands<'a> {
             NodeShape::Pattern => self.entries.shape(KeptShape::Pattern),
             NodeShape::Same => {}
         }
+    }
+
+    /// The uppermost entry goes into the one below it.
+    pub fn pop(&mut self)
+        ensures { self.new ≡ popped self.old }
+    {
+        self.entries.pop();
+    }
+
+    /// The uppermost entry goes into the parentheses that the one below it stands for.
+    pub fn parentheses(&mut self)
+        ensures { self.new ≡ with_entries (enclosed self.old.entries) self.old }
+    {
+        self.entries.enclose();
+    }
+
+    /// A member stands behind the uppermost entry.
+    pub fn member(&mut self)
+        ensures { self.new ≡ changed (as_tailed member) self.old }
+    {
+        self.entries.member();
+    }
+
+    /// A call stands behind the uppermost entry.
+    pub fn call(&mut self)
+        ensures { self.new ≡ changed (as_tailed call) self.old }
+    {
+        self.entries.call();
+    }
+
+    /// An optional member or call stands behind the uppermost entry.
+    pub fn chain(&mut self)
+        ensures { self.new ≡ changed (as_tailed chained) self.old }
+    {
+        self.entries.chain();
+    }
+
+    /// The key of the uppermost entry is this word.
+    pub fn word_key(&mut self, word: &[u8])
+        ensures { self.new ≡ changed (as_marked (says_proto word.now)) self.old }
+    {
+        self.entries.mark(is_proto(word));
+    }
+
+    /// The key of the uppermost entry is this text, as it is written.
+    pub fn text_key(&mut self, written: &[u8], octal: bool, at: usize)
+        ensures { self.new ≡ noting (octal_errors octal at)
+            (changed (as_marked (says_proto (text_value written.now))) self.old) }
+    {
+        self.entries.mark(is_proto_text(written));
+        self.note_octal(octal, at);
     }
 
     // ---- functions and directives
@@ -181,7 +190,8 @@ impl<'a> Operands<'a> {
         }
     }
 
-    fn set_rest(&mut self)
+    /// The innermost function has a rest parameter.
+    pub fn set_rest(&mut self)
         ensures { self.new ≡ with_functions (change_innermost with_rest self.old.functions) self.old }
     {
         if let Some(function) = self.functions.innermost() {
@@ -193,7 +203,15 @@ impl<'a> Operands<'a> {
     }
 
     /// A node of this kind begins.
-    fn begin(&mut self, kind: NodeKind)
+    pub fn begin(&mut self, kind: NodeKind, at: usize) -> Result<(), Memory>
+        ensures { OnOk result (self.new ≡ pushed (plain at another) (begins kind self.old)) }
+    {
+        self.begin_node(kind);
+        self.push(at, KeptShape::Other)
+    }
+
+    /// What a node of this kind says of directives.
+    fn begin_node(&mut self, kind: NodeKind)
         ensures { self.new ≡ begins kind self.old }
     {
         match kind {
@@ -205,16 +223,24 @@ impl<'a> Operands<'a> {
         }
     }
 
-    fn open(&mut self, kind: NodeKind, at: usize) -> Result<(), Memory>
+    /// A function begins, as a node of this kind.
+    pub fn open(&mut self, kind: NodeKind, at: usize) -> Result<(), Memory>
         ensures { OnOk result (self.new ≡ opened kind at self.old) }
     {
-        self.begin(kind);
+        self.begin_node(kind);
         self.functions.open(Opened {
             prologue: false,
             rest: false,
             strict: false,
         })?;
         self.push(at, KeptShape::Other)
+    }
+
+    /// The innermost function ends.
+    pub fn close(&mut self)
+        ensures { self.new ≡ with_functions (drop 1 self.old.functions) self.old }
+    {
+        self.functions.close();
     }
 
     /// A statement is a text alone.
@@ -234,7 +260,7 @@ impl<'a> Operands<'a> {
     }
 
     /// A statement is the uppermost operand.
-    fn direct(&mut self)
+    pub fn direct(&mut self)
         ensures { self.new ≡ directing_by self.old.entries self.old }
     {
         if let Some(top) = self.entries.top() {
@@ -266,7 +292,7 @@ impl<'a> Operands<'a> {
     }
 
     /// The uppermost operand is a target.
-    fn target(&mut self, pattern: bool)
+    pub fn target(&mut self, pattern: bool)
         ensures { self.new ≡ noting (errors_of_first (λ top. target_errors pattern top.operand) self.old.entries) self.old }
     {
         if let Some(top) = self.entries.top() {
@@ -292,7 +318,7 @@ impl<'a> Operands<'a> {
     }
 
     /// The uppermost operand is that of the operator below it.
-    fn unary(&mut self, operator: UnaryOperator)
+    pub fn unary(&mut self, operator: UnaryOperator)
         ensures { self.new ≡ noting (operator_errors operator self.old.entries) self.old }
     {
         if let Some(top) = self.entries.top() {
@@ -303,7 +329,7 @@ impl<'a> Operands<'a> {
     }
 
     /// A value stands behind the key of the uppermost entry.
-    fn valued(&mut self)
+    pub fn valued(&mut self)
         ensures { self.new ≡ noting (errors_of_first proto_errors self.old.entries) self.old }
     {
         if let Some(top) = self.entries.top() {

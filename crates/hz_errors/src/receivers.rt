@@ -1,7 +1,6 @@
 use crate::least::{with_early, with_profile};
-use crate::told::Told;
 use hz_list::Memory;
-use hz_tree::{EarlyKind, FunctionKind, ProfileKind, Signal};
+use hz_tree::{EarlyKind, FunctionKind, ProfileKind};
 use std::alloc::Global;
 use std::marker::Model;
 
@@ -26,8 +25,7 @@ impl Model for Receivers {
 
 impl Receivers {
     ghost use Rattle.std.specs.Prelude.{◌≡◌, OnOk};
-    ghost use Rattle.hz_tree.specs.grammar.Signals.{event};
-    ghost use Rattle.hz_errors.specs.Receivers.{begun, happens, opens, closes, finds_this, finds_target};
+    ghost use Rattle.hz_errors.specs.Receivers.{begun, opens, closes, finds_this, finds_target};
     ghost use Rattle.hz_errors.specs.Receivers.{is_received as does_receive};
 
     /// No function is open, and nothing is found. No memory is taken.
@@ -38,28 +36,6 @@ impl Receivers {
             opened: Vec::new(alloc),
             early: None,
             profile: None,
-        }
-    }
-
-    /// Goes on by what the grammar tells.
-    pub fn tell(&mut self, signal: Signal, told: &Told<'_>) -> Result<(), Memory>
-        ensures { OnOk result (self.new ≡ happens self.old (event signal told.now)) }
-    {
-        match signal {
-            Signal::Open(_, kind) => self.open(kind),
-            Signal::Close => {
-                self.close();
-                Ok(())
-            }
-            Signal::This => {
-                self.find_this(told.at);
-                Ok(())
-            }
-            Signal::NewTarget => {
-                self.find_target(told.at);
-                Ok(())
-            }
-            _ => Ok(()),
         }
     }
 
@@ -77,7 +53,8 @@ impl Receivers {
         self.profile
     }
 
-    fn open(&mut self, kind: FunctionKind) -> Result<(), Memory>
+    /// A function of this kind begins.
+    pub fn open(&mut self, kind: FunctionKind) -> Result<(), Memory>
         ensures { OnOk result (self.new ≡ opens kind self.old) }
     {
         let received = kind != FunctionKind::Arrow || self.is_received();
@@ -85,13 +62,15 @@ impl Receivers {
         Ok(())
     }
 
-    fn close(&mut self)
+    /// The innermost function ends.
+    pub fn close(&mut self)
         ensures { self.new ≡ closes self.old }
     {
         let _ = self.opened.pop();
     }
 
-    fn find_this(&mut self, at: usize)
+    /// `this` stands here.
+    pub fn find_this(&mut self, at: usize)
         ensures { self.new ≡ finds_this at self.old }
     {
         if !self.is_received() {
@@ -99,7 +78,8 @@ impl Receivers {
         }
     }
 
-    fn find_target(&mut self, at: usize)
+    /// `new.target` stands here.
+    pub fn find_target(&mut self, at: usize)
         ensures { self.new ≡ finds_target at self.old }
     {
         if !self.is_received() {
