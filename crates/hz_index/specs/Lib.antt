@@ -1,0 +1,5 @@
+pub mod Table
+pub mod Names
+pub mod Flat
+pub mod Views
+pub mod Holds
