@@ -4,8 +4,9 @@ ghost use Rattle.hz_tree.specs.sources.Refusals.{refusal_of, functions};
 ghost use Rattle.hz_tree.specs.sources.Shown.{text_of_refusal};
 ghost use Rattle.hz_front_cases.specs.Answers as spec;
 
+use hz_index::Index;
 use hz_preparse::{PreFault, preparse};
-use hz_tree::{FunctionInfo, FunctionKind, Index};
+use hz_tree::{FunctionInfo, FunctionKind};
 use std::alloc::{AllocError, Global};
 
 /// The functions of a source, or why it is refused.

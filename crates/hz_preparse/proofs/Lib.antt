@@ -1,3 +1,4 @@
+pub mod NoLimit
 pub mod DraftLemmas
 pub mod Steps
 pub mod Whole

@@ -1,11 +1,12 @@
 -- What comes of a whole source.
-use Rattle.std.proofs.Common.{◌≡◌, Bool, true, false, nat_lt, ◌==◌, List, [], ◌∷◌, length, Some}
+use Rattle.std.proofs.Common.{◌≡◌, Bool, true, false, nat_lt, ◌==◌, List, [], ◌∷◌, length, Some, None}
 use Rattle.std.proofs.Common.{Err, refl, ap, sym, ◌∙◌, arith, subst}
 use Rattle.std.specs.Str.Lossy.{utf8_valid_len}
 use Rattle.hz_tree.specs.declared.nonterminal.Nonterminal.TheVariants as n
 use Rattle.hz_tree.specs.declared.refusal.Refusal.{Refusal}
 use Rattle.hz_tree.specs.declared.symbol.Symbol.TheVariants as s
 use Rattle.hz_tree.specs.declared.tree.Tree.{Tree}
+use Rattle.hz_tree.specs.errors.Limits.{limit_errors}
 use Rattle.hz_tree.specs.tokens.Text.{Text}
 use Rattle.hz_tree.specs.trees.Drafts as drafts
 use Rattle.hz_tree.specs.trees.Events.{events_of}
@@ -13,16 +14,23 @@ use Rattle.hz_tree.specs.grammar.Look.{Terminal, terminals}
 use Rattle.hz_tree.specs.grammar.Signals.{Event}
 use Rattle.hz_tree.specs.reading.Reading.{Reading, Got, Stuck, Deeper, reads, place_ahead}
 use Rattle.hz_tree.specs.sources.Refusals.{max_length, refusal_at, refusal_by, refusal_of, functions}
+use Rattle.hz_tree.specs.sources.Refusals.{function_scopes_by, function_scopes}
 use Rattle.hz_tree.specs.reading.Stack.{Verdict, Through, At, Lost, ends}
 use Rattle.hz_laws.proofs.Answers.{ends_script, stuck_refuses, through_functions}
 use Rattle.hz_laws.proofs.RowLaws.{script_fits}
 use Rattle.hz_errors.specs.Errors.{refusal_found}
 use Rattle.hz_errors.specs.Errors as errors
 use Rattle.hz_errors.proofs.ErrorsLaw.{refusal_same}
+use Rattle.hz_scopes.specs.Depth.{all_heard}
+use Rattle.hz_scopes.specs.State.{State, finished}
+use Rattle.hz_scopes.specs.State as states
+use Rattle.hz_scopes.proofs.KeptLaw.{source_kept}
+use Rattle.hz_scopes.proofs.ScopesLaw.{scopes_found}
+use Rattle.hz_preparse.proofs.NoLimit.{no_limit}
 use Rattle.hz_preparse.specs.declared.fault.PreFault.{PreFault}
 use Rattle.hz_preparse.specs.declared.fault.PreFault.TheVariants.{Refused, Memory}
 use Rattle.hz_preparse.specs.Heard.{Heard, begun, happens, after}
-use Rattle.hz_preparse.specs.Outcome.{Outcome, done, refused, outcome, Answers, IsText, Reads}
+use Rattle.hz_preparse.specs.Outcome.{Outcome, done, refused, outcome, Answers, IsText, Kept, Reads}
 
 pub answers_same : (o whole : Outcome) (fault : PreFault) → Answers o (Err fault) → o ≡ whole →
     Answers whole (Err fault)
@@ -44,6 +52,10 @@ draft_heard : (es : List Event) (h : Heard) → (after h es).draft ≡ drafts.bu
 draft_heard [] h = refl
 draft_heard (e ∷ es) h = draft_heard es (happens h e)
 
+scopes_heard : (es : List Event) (h : Heard) → (after h es).scopes ≡ all_heard h.scopes es
+scopes_heard [] h = refl
+scopes_heard (e ∷ es) h = scopes_heard es (happens h e)
+
 errors_heard : (es : List Event) (h : Heard) → (after h es).errors ≡ errors.after h.errors es
 errors_heard [] h = refl
 errors_heard (e ∷ es) h = errors_heard es (happens h e)
@@ -53,6 +65,8 @@ pub record Whole (source : Text) (h : Heard) : Type 0 where
   pub functions_are : h.draft.functions ≡ functions source
   pub refusal_is : (strict : Bool) → refusal_by strict (reads n.Script (terminals source))
       ≡ refusal_found strict h.errors
+  pub scopes_are : (strict : Bool) → refusal_by strict (reads n.Script (terminals source)) ≡ None
+      → Kept source h.scopes
 
 -- ---- the recogniser's answer
 
@@ -74,6 +88,20 @@ got_refusal source h tree rest read built_it strict =
     ∙ ap (refusal_found strict) (sym (errors_heard (events_of tree) (begun source)))
     ∙ ap (λ (h : Heard). refusal_found strict h.errors) built_it
 
+got_scopes : (source : Text) (h : Heard) (tree : Tree) (rest : List Terminal)
+    → reads n.Script (terminals source) ≡ Got tree rest → after (begun source) (events_of tree) ≡ h
+    → (strict : Bool) → refusal_by strict (reads n.Script (terminals source)) ≡ None → Kept source h.scopes
+unfolding function_scopes
+got_scopes source h tree rest read built_it strict none =
+    let few : limit_errors tree ≡ [] = no_limit strict tree (ap (refusal_by strict) (sym read) ∙ none) in record {
+      state = states.after states.begun (events_of tree);
+      is =
+          ap (λ (h : Heard). h.scopes) (sym built_it)
+          ∙ scopes_heard (events_of tree) (begun source)
+          ∙ source_kept tree (script_fits (terminals source) rest tree read) few;
+      says = scopes_found source tree ∙ ap (function_scopes_by source) (sym read);
+    }
+
 done_reads : (source : Text) (h : Heard) (r : Reading Tree) → r ≡ reads n.Script (terminals source)
     → outcome (begun source) (ends (s.Read n.Script ∷ []) (terminals source)) ≡ done h → Whole source h
 done_reads source h (Got tree rest) e o =
@@ -84,6 +112,7 @@ done_reads source h (Got tree rest) e o =
     let built_it : after (begun source) (events_of tree) ≡ h = cc in record {
       functions_are = got_functions source h tree rest verdict built_it;
       refusal_is = got_refusal source h tree rest (sym e) built_it;
+      scopes_are = got_scopes source h tree rest (sym e) built_it;
     }
 done_reads source h (Stuck cause ts) e o =
     let verdict : ends (s.Read n.Script ∷ []) (terminals source) ≡ At cause ts =
@@ -123,6 +152,11 @@ module _ (source : Text) (cursor : List Terminal) (begins : Heard) (text : IsTex
       → (refusal_of source strict ≡ refusal_found strict h.errors) × (h.draft.functions ≡ functions source)
   read_ok h o strict =
       (refusal_text source strict text ∙ (whole h o).refusal_is strict, (whole h o).functions_are)
+
+  pub read_scopes : (h : Heard) → outcome begins (ends (s.Read n.Script ∷ []) cursor) ≡ done h → (strict : Bool)
+      → refusal_of source strict ≡ None → Kept source h.scopes
+  read_scopes h o strict none =
+      (whole h o).scopes_are strict (sym (refusal_text source strict text) ∙ none)
 
   pub read_err : (fault : PreFault) → Answers (outcome begins (ends (s.Read n.Script ∷ []) cursor)) (Err fault)
       → (strict : Bool) → Reads source strict (Err fault)

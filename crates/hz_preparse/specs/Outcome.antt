@@ -1,12 +1,12 @@
 -- What comes of a source.
-use Rattle.std.specs.Prelude.{◌≡◌, ◌≤◌, Bool, List, length, Option, Some, None, Result, Ok, Err}
+use Rattle.std.specs.Prelude.{◌≡◌, ◌≤◌, Bool, length, Option, Some, None, Result, Ok, Err}
 use Rattle.std.specs.Str.Lossy.{utf8_valid_len}
-use Rattle.hz_tree.specs.declared.index.FunctionInfo.{FunctionInfo}
 use Rattle.hz_tree.specs.declared.refusal.Refusal.{Refusal}
 use Rattle.hz_tree.specs.tokens.Text.{Text}
 use Rattle.hz_tree.specs.reading.Reading.{place_ahead}
-use Rattle.hz_tree.specs.sources.Refusals.{max_length, refusal_at, refusal_of, functions as functions_in}
+use Rattle.hz_tree.specs.sources.Refusals.{Accepted, max_length, refusal_at, refusal_of, function_scopes}
 use Rattle.hz_tree.specs.reading.Stack.{Verdict, Through, At, Lost}
+use Rattle.hz_scopes.specs.State.{State, finished}
 use Rattle.hz_preparse.specs.Heard.{Heard, after}
 use Rattle.hz_preparse.specs.declared.fault.PreFault.{PreFault}
 use Rattle.hz_preparse.specs.declared.fault.PreFault.TheVariants.{Refused, Memory}
@@ -41,8 +41,15 @@ pub record IsText (source : Text) : Type 0 where
   pub short : length source ≤ max_length
   pub whole : utf8_valid_len source ≡ length source
 
--- the functions of a text that is not refused, or the refusal
-abbrev pub Reads : Text → (strict : Bool) → Result (List FunctionInfo) PreFault → Type 0
-Reads source strict (Ok functions) = (refusal_of source strict ≡ None) × (functions ≡ functions_in source)
+-- what is known of scopes is kept, and is what the source says
+pub record Kept (source : Text) (scopes : Option State) : Type 0 where
+  pub state : State
+  pub is : scopes ≡ Some state
+  pub says : finished (length source) state ≡ function_scopes source
+
+-- the index of a text that is not refused, or the refusal
+abbrev pub Reads : Text → (strict : Bool) → Result Accepted PreFault → Type 0
+Reads source strict (Ok index) =
+    (refusal_of source strict ≡ None) × (index ≡ record { source = source; strict = strict })
 Reads source strict (Err (Refused refusal)) = refusal_of source strict ≡ Some refusal
 Reads source strict (Err Memory) = Unit {0}

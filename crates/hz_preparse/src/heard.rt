@@ -1,14 +1,18 @@
 use crate::draft::Draft;
 use hz_errors::{Errors, Told};
+use hz_index::ScopeTable;
 use hz_list::Memory;
+use hz_scopes::ScopeDraft;
 use hz_tree::{FunctionInfos, Refusal, Signal};
 use std::alloc::Global;
 use std::marker::Model;
 
-/// What is known of a source at a place: the functions that begin before it, and the errors found up to there.
+/// What is known of a source at a place: the functions that begin before it, their scopes, and the errors found up to
+/// there.
 #[derive(Drop)]
 pub struct Heard<'a> {
     draft: Draft,
+    scopes: ScopeDraft<'a>,
     errors: Errors<'a>,
 }
 
@@ -17,13 +21,14 @@ impl<'a> Model for Heard<'a> {
 
     ghost Value = { Known };
 
-    ghost view = { λ h. record { draft = h.draft; errors = h.errors } };
+    ghost view = { λ h. record { draft = h.draft; scopes = h.scopes; errors = h.errors } };
 }
 
 impl<'a> Heard<'a> {
-    ghost use Rattle.std.specs.Prelude.{◌≡◌, IfOk, OnOk};
+    ghost use Rattle.std.specs.Prelude.{◌≡◌, IfOk, OnOk, option_map};
     ghost use Rattle.hz_tree.specs.grammar.Signals.{event};
     ghost use Rattle.hz_errors.specs.Errors.{refusal_found};
+    ghost use Rattle.hz_scopes.specs.State.{finished};
     ghost use Rattle.hz_preparse.specs.Heard.{begun, happens};
 
     /// At the start of a source.
@@ -32,6 +37,7 @@ impl<'a> Heard<'a> {
     {
         Ok(Heard {
             draft: Draft::new(alloc, source)?,
+            scopes: ScopeDraft::new(alloc)?,
             errors: Errors::new(alloc)?,
         })
     }
@@ -41,6 +47,7 @@ impl<'a> Heard<'a> {
         ensures { OnOk result (self.new ≡ happens self.old (event signal told.now)) }
     {
         self.draft.tell(signal, told)?;
+        self.scopes.tell(signal, told.at, told.text, told.behind)?;
         self.errors.tell(signal, told)?;
         Ok(())
     }
@@ -53,10 +60,17 @@ impl<'a> Heard<'a> {
         self.errors.refusal(strict)
     }
 
-    pub fn into_functions(self) -> FunctionInfos
-        ensures { result ≡ self.entry.draft.functions }
+    /// The functions, and their scopes where these are kept, of a source of so many bytes of which this is all.
+    pub fn finish(self, length: usize) -> Result<(FunctionInfos, Option<ScopeTable<'a>>), Memory>
+        ensures { IfOk result (λ known. (known.0 ≡ self.entry.draft.functions)
+            × (option_map (λ t. t.functions) known.1 ≡ option_map (finished length) self.entry.scopes)) }
     {
-        let Heard { draft, errors: _ } = self;
-        draft.into_functions()
+        let Heard {
+            draft,
+            scopes,
+            errors: _,
+        } = self;
+        let table = scopes.finish(length)?;
+        Ok((draft.into_functions(), table))
     }
 }

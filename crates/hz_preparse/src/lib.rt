@@ -14,5 +14,5 @@ mod laws;
 mod recogniser;
 
 pub use fault::PreFault;
-pub use index::{MAX_LENGTH, preparse};
+pub use index::preparse;
 pub use laws::starts_rise;

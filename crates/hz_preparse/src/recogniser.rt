@@ -45,7 +45,8 @@ fn begin(stack: &mut Stack) -> Result<(), PreFault>
     }
 }
 
-/// Goes past one symbol, which was taken from the stack.
+/// Goes past one symbol, which was taken from the stack. It is short and comes often, so it stands within the loop.
+#[inline(always)]
 fn step<'a>(
     stack: &mut Stack,
     cursor: &mut Cursor<'a>,
@@ -62,22 +63,57 @@ fn step<'a>(
     Ok(())
 }
 
-/// Tells what the grammar says before the next token.
+/// Tells what the grammar says before the next token. It is long, so it stands apart from the loop.
+#[inline(never)]
 fn tell<'a>(heard: &mut Heard<'a>, cursor: &Cursor<'a>, signal: Signal) -> Result<(), Memory>
     ensures { OnOk result (heard.new ≡ happens heard.old (event signal (told_ahead cursor.now))) }
 {
-    heard.tell(signal, &ahead(cursor))
+    heard.tell(signal, &beside(signal, cursor))
 }
 
-/// What stands before the next token, and what that is.
-fn ahead<'a>(cursor: &Cursor<'a>) -> Told<'a>
-    ensures { result ≡ told_ahead cursor.now }
+/// What is told beside a signal of the next token, and of the end of the one before it. What is not told is left out.
+fn beside<'a>(signal: Signal, cursor: &Cursor<'a>) -> Told<'a>
+    ensures { event signal result ≡ event signal (told_ahead cursor.now) }
 {
-    Told {
-        at: cursor.place(),
-        text: cursor.text(),
-        octal: cursor.octal(),
-        behind: cursor.behind(),
+    let nothing = Told {
+        at: 0,
+        text: &[],
+        octal: false,
+        behind: 0,
+    };
+    match signal {
+        Signal::Begin(_)
+        | Signal::This
+        | Signal::NewTarget
+        | Signal::Literal
+        | Signal::Octal
+        | Signal::Rest
+        | Signal::ScopeHere(_)
+        | Signal::Open(_, _)
+        | Signal::OctalKey => Told {
+            at: cursor.place(),
+            ..nothing
+        },
+        Signal::Name | Signal::Declare(_) => Told {
+            at: cursor.place(),
+            text: cursor.text(),
+            ..nothing
+        },
+        Signal::Text | Signal::TextKey => Told {
+            at: cursor.place(),
+            text: cursor.text(),
+            octal: cursor.octal(),
+            ..nothing
+        },
+        Signal::Use | Signal::Label | Signal::JumpTo(_) | Signal::WordKey => Told {
+            text: cursor.text(),
+            ..nothing
+        },
+        Signal::EndScope | Signal::Close => Told {
+            behind: cursor.behind(),
+            ..nothing
+        },
+        _ => nothing,
     }
 }
 
