@@ -1,7 +1,6 @@
 use hz_cursor::Cursor;
-use hz_preparse::MAX_LENGTH;
 use hz_scan::{Scanner, Seen, class_of, look_at};
-use hz_tree::{BadKind, Class, OutsideKind};
+use hz_tree::{BadKind, Class, MAX_LENGTH, OutsideKind};
 use std::alloc::Global;
 use std::test::Fail;
 
@@ -83,6 +82,28 @@ fn looks_and_takes(rt: HostRuntime) -> Result<(), Fail> {
     assert!(rt; cursor.eat(Class::End));
     assert!(rt; !cursor.eat(Class::End));
     assert_eq!(rt; (cursor.place(), cursor.behind()), (0, 0));
+    Ok(())
+}
+
+#[test]
+fn shows_texts(rt: HostRuntime) -> Result<(), Fail> {
+    let mut cursor = Cursor::new(rt.alloc(), b" let /* a */ a\n= '\\07' + \"\\0\"")?;
+    for (text, octal) in [
+        ("let", false),
+        ("a", false),
+        ("=", false),
+        ("'\\07'", true),
+        ("+", false),
+        ("\"\\0\"", false),
+        ("", false),
+    ] {
+        assert_eq!(rt; cursor.text(), text.as_bytes(), "of {text:?}");
+        assert_eq!(rt; cursor.octal(), octal, "of {text:?}");
+        let look = cursor.look();
+        assert!(rt; cursor.eat(look.one), "of {text:?}");
+    }
+    assert!(rt; cursor.text().is_empty());
+    assert!(rt; !cursor.octal());
     Ok(())
 }
 

@@ -1,4 +1,4 @@
-use hz_scan::{Scanner, Tokens, first_token_len};
+use hz_scan::{Scanner, Tokens, first_token_len, has_value};
 use hz_tree::{BadKind, TokenKind};
 use std::test::Fail;
 
@@ -30,4 +30,20 @@ fn tokens_of_a_template(rt: HostRuntime) -> Result<(), Fail> {
     source.extend_from_slice(b" let a")?;
     assert_eq!(rt; first_token_len(source), 3);
     Ok(())
+}
+
+#[test]
+fn values_of_literals(rt: HostRuntime) {
+    for (written, wanted, same) in [
+        ("''", "", true),
+        ("\"__proto__\"", "__proto__", true),
+        ("'\\x5f\\u005F\\u{5f}'", "___", true),
+        ("'a\\\nb\\t\\''", "ab\t'", true),
+        ("'ab'", "a", false),
+        ("'a'", "ab", false),
+        ("'\\u0161'", "a", false),
+    ] {
+        let found = has_value(written.as_bytes(), wanted.as_bytes());
+        assert_eq!(rt; found, same, "of {written:?}");
+    }
 }
