@@ -1,15 +1,15 @@
 -- Agreement of worlds: at the start, and behind changes of turns, calls and marks.
-use Rattle.std.proofs.Common.{arith, refl, ℕ, zero, suc, List, [], ◌∷◌, Option, Some, None}
-use Rattle.hz_value.specs.world.Objects.{Object, Kind, Function}
-use Rattle.hz_value.specs.world.Records.{Scope}
+use Rattle.std.proofs.Common.{◌≡◌, arith, refl, subst, ℕ, zero, suc, List, []}
+use Rattle.hz_value.specs.world.Objects.{Object}
 use Rattle.hz_value.specs.world.Start.{world0, store0}
 use Rattle.hz_value.specs.world.Store.{object}
 use Rattle.hz_value.specs.world.Valid.{IsValid, IsValidObject}
 use Rattle.hz_value.specs.world.World.{World, Line}
 use Rattle.hz_value.proofs.StartLaws.{world0_valid}
 use Rattle.hz_ecma.specs.agreement.Layouts.{Layout}
-use Rattle.hz_ecma.specs.agreement.Agreement.{Matching, Matched, Passes, Stands, SameBindings, SameClosures}
+use Rattle.hz_ecma.specs.agreement.Agreement.{Matching, Matched, SameBindings, SameClosures}
 use Rattle.hz_ecma.specs.agreement.Agreement.{HasStart, Agree}
+use Rattle.hz_ecma.proofs.ScopeLaws.{scopes_same, closures_later}
 
 -- ---- the start
 
@@ -77,35 +77,6 @@ valid_counting w turns calls mark h = record {
   parents = h.parents;
 }
 
-passes_counting : (m : Matching) (w1 : World) (turns calls mark : ℕ) (rest rest1 : Option ℕ → Type 0) (r : ℕ)
-    (e n : Option ℕ) → ((e1 : Option ℕ) → rest e1 → rest1 e1) → Passes m w1 n rest r e
-    → Passes m (counting w1 turns calls mark) n rest1 r e
-passes_counting m w1 turns calls mark rest rest1 r e None go h = go e h
-passes_counting m w1 turns calls mark rest rest1 r e (Some n) go h =
-    (h.0, h.1, h.2, go (w1.environments h.0).parent h.3)
-
-stands_counting : (layout : Layout) (m : Matching) (w w1 : World) (turns calls mark mark1 : ℕ) (ss : List Scope)
-    (rs : List ℕ) (top : ℕ) (e : Option ℕ) → Stands layout m w w1 ss rs top e
-    → Stands layout m (counting w turns calls mark) (counting w1 turns calls mark1) ss rs top e
-stands_counting layout m w w1 turns calls mark mark1 [] [] top e h = tt
-stands_counting layout m w w1 turns calls mark mark1 (s ∷ ss) (r ∷ rs) top e h = record {
-  live = h.live;
-  scope = h.scope;
-  absent = h.absent;
-  next = passes_counting m w1 turns calls mark1 _ _ r e (layout.count s)
-      (λ e1 h1. stands_counting layout m w w1 turns calls mark mark1 ss rs r e1 h1) h.next;
-}
-stands_counting layout m w w1 turns calls mark mark1 [] (r ∷ rs) top e h = h
-stands_counting layout m w w1 turns calls mark mark1 (s ∷ ss) [] top e h = h
-
-closures_counting : (layout : Layout) (m : Matching) (w w1 : World) (turns calls mark mark1 : ℕ) (k k1 : Kind)
-    → SameClosures layout m w w1 k k1
-    → SameClosures layout m (counting w turns calls mark) (counting w1 turns calls mark1) k k1
-closures_counting layout m w w1 turns calls mark mark1 (Function c) (Function c1) h =
-    stands_counting layout m w w1 turns calls mark mark1 (layout.around c.function) c.records w.record_count
-    c1.environment h
-closures_counting layout m w w1 turns calls mark mark1 k k1 h = tt
-
 bindings_counting : (layout : Layout) (w w1 : World) (turns calls mark mark1 r e : ℕ) → SameBindings layout w w1 r e
     → SameBindings layout (counting w turns calls mark) (counting w1 turns calls mark1) r e
 bindings_counting layout w w1 turns calls mark mark1 r e h = record {
@@ -116,7 +87,7 @@ bindings_counting layout w w1 turns calls mark mark1 r e h = record {
 }
 
 -- both go on with the same turns and calls, each with a mark of its own
-pub agree_counting : (layout : Layout) (m : Matching) (w w1 : World) (turns calls mark mark1 : ℕ)
+agree_counting : (layout : Layout) (m : Matching) (w w1 : World) (turns calls mark mark1 : ℕ)
     → Agree layout m w w1
     → Agree layout m (counting w turns calls mark) (counting w1 turns calls mark1)
 agree_counting layout m w w1 turns calls mark mark1 h = record {
@@ -128,10 +99,22 @@ agree_counting layout m w w1 turns calls mark mark1 h = record {
   one_environment = h.one_environment;
   one_record = h.one_record;
   objects = h.objects;
-  closures = λ o. closures_counting layout m w w1 turns calls mark mark1 _ _ (h.closures o);
+  closures = λ o.
+      closures_later layout m m w w1 (counting w turns calls mark) (counting w1 turns calls mark1)
+      (scopes_same m w w1 (counting w turns calls mark) (counting w1 turns calls mark1)
+      (λ r e is. (h.pairs r e is).live_environment) refl refl refl)
+      _ _ (h.closures o);
   symbols = h.symbols;
   globals = h.globals;
   lines = h.lines;
   turns = refl;
   calls = refl;
 }
+
+pub agree_counts : (layout : Layout) (m : Matching) (w w1 : World) (turns turns1 calls calls1 mark mark1 : ℕ)
+    → turns ≡ turns1 → calls ≡ calls1 → Agree layout m w w1
+    → Agree layout m (counting w turns calls mark) (counting w1 turns1 calls1 mark1)
+agree_counts layout m w w1 turns turns1 calls calls1 mark mark1 same_turns same_calls h =
+    subst (λ n. Agree layout m (counting w turns calls mark) (counting w1 n calls1 mark1)) same_turns
+    (subst (λ n. Agree layout m (counting w turns calls mark) (counting w1 turns n mark1)) same_calls
+    (agree_counting layout m w w1 turns calls mark mark1 h))

@@ -108,8 +108,8 @@ an_outer_loop_continues = refl
 
 a_switch :
     run_source 100 []
-    (codes "switch (2) { case 1: print(1); default: print(0); case 3: print(3); break; case 4: }")
-    ≡ codes "0\n3\ndone"
+    (codes "switch (2) { case 1: print(1); default: print(0); case 3: print(3); break; case 4: } print(5)")
+    ≡ codes "0\n3\n5\ndone"
 unfolding digits scanning class_by same_class same_bracket terminals reads_to reads_by
     Rattle.hz_tree.specs.declared.tree.Tree.TheViews.out-Tree denote.Hole.Carrier.out
     Rattle.hz_tree.specs.declared.tree.Tree.TheBlock.shown-the_row-Tree-0 denote.Hole.Carrier.shown

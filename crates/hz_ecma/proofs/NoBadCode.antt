@@ -13,9 +13,9 @@ use Rattle.hz_value.specs.system.Acts.{Reply, Normal, Thrown, Returned, Act, Cal
 use Rattle.hz_value.specs.system.Acts.{Resume, Print, WantLine, Turn, Spent, Leave, Bad, Next, Goes, Does, next_map}
 use Rattle.hz_value.specs.system.Acts.{computed_to}
 use Rattle.hz_value.specs.system.Routines.{RoutineActivation, routine_step, print_argument}
-use Rattle.hz_value.specs.system.System.{Meaning, Frame, Source, Routine, Asked, State, Running, Ended, System}
+use Rattle.hz_value.specs.system.System.{Meaning, Frame, Source, Routine, State, Running, Ended, System}
 use Rattle.hz_value.specs.system.System.{frame_step, statement_in_hand}
-use Rattle.hz_value.specs.system.Step.{replied, turn_to, depth_to, call_to, frame_of, line_to, with_event}
+use Rattle.hz_value.specs.system.Step.{replied, turn_to, depth_to, call_to, frame_of, line_to}
 use Rattle.hz_value.specs.system.Step.{acted, moved, stepped, system_step, max_calls, running}
 use Rattle.hz_value.specs.system.Runs.{after}
 use Rattle.hz_ecma.specs.evaluator.Activations.{Activation}
@@ -98,7 +98,7 @@ meant_acted m s place f fs w (Start prototype) h = absurd h
 meant_acted m s place f fs w (Yield v) h = absurd h
 meant_acted m s place f fs w (Resume g c) h = absurd h
 meant_acted m s place f fs w (Print line) h = tt
-meant_acted m s place f fs w WantLine h = meant_line m (with_event Asked s) place (f ∷ fs) w w.lines
+meant_acted m s place f fs w WantLine h = absurd h
 meant_acted m s place f fs w Turn h = tt
 meant_acted m s place f fs w Spent h = tt
 meant_acted m s place f fs w (Leave reason) h = tt

@@ -35,6 +35,7 @@ quiet_trans layout own own1 own2 w w1 w2 later h k = record {
       k.keeps r (omega (arith, lt, later.record_count)) (λ c. out (h.new r lt c)) name
       (ap (λ s. layout.slot s name) (later.scopes r lt) ∙ slot) ∙ h.keeps r lt out name slot;
   new = λ r lt c. h.new r lt (k.new r (omega (arith, lt, later.record_count)) c);
+  live = λ are. k.live (h.live are);
 }
 
 larger_trans : (m m1 m2 : Matching) → IsLarger m m1 → IsLarger m1 m2 → IsLarger m m2

@@ -1,5 +1,5 @@
 -- A tree that keeps a text stays in agreement: the text gets a number on its side alone.
-use Rattle.std.proofs.Common.{◌≡◌, ◌<◌, ◌≤◌, arith, refl, ap, ◌∙◌, ℕ, Bool, true, false}
+use Rattle.std.proofs.Common.{◌≡◌, ◌<◌, ◌≤◌, arith, refl, ◌∙◌, ℕ, Bool, true, false}
 use Rattle.std.proofs.Common.{if◌then◌else◌, List, [], ◌∷◌, ◌++◌, length, Option, Some, None}
 use Rattle.std.proofs.lemmas.Cmp.{nat_list_eq_equiv}
 use Rattle.std.proofs.lemmas.List.{length_push}
@@ -11,19 +11,19 @@ use Rattle.hz_value.specs.declared.values.Value.TheVariants as value
 use Rattle.hz_value.specs.declared.values.Property.{Property}
 use Rattle.hz_value.specs.declared.values.Property.TheVariants.{Data, Accessor}
 use Rattle.hz_value.specs.operators.Contents.{Text}
-use Rattle.hz_value.specs.world.Objects.{Object, Kind, Function, Entries}
-use Rattle.hz_value.specs.world.Records.{Scope, Binding}
+use Rattle.hz_value.specs.world.Objects.{Object, Entries}
+use Rattle.hz_value.specs.world.Records.{Binding}
 use Rattle.hz_value.specs.world.Store.{Store, with_text}
 use Rattle.hz_value.specs.world.Valid.{IsLive, IsLiveProperty, IsLiveBinding, AreLive, IsValidObject, IsValid}
 use Rattle.hz_value.specs.world.World.{World, keeping}
-use Rattle.hz_ecma.specs.agreement.Contents.{binding_content}
 use Rattle.hz_ecma.specs.agreement.Layouts.{Layout}
-use Rattle.hz_ecma.specs.agreement.Agreement.{Matching, Passes, Stands, SameBindings, SameClosures, HasStart, Agree}
-use Rattle.hz_ecma.proofs.ContentLaws.{Grows, grows_text, content_stays, objects_stay, symbols_stay, globals_stay}
+use Rattle.hz_ecma.specs.agreement.Agreement.{Matching, HasStart, Agree}
+use Rattle.hz_ecma.proofs.ContentLaws.{grows_text, objects_stay, symbols_stay, globals_stay}
+use Rattle.hz_ecma.proofs.StoreLaws.{agree_store}
 
 -- ---- validity
 
-texts_more : (b : Bool) (ts : List (List ℕ)) (t : List ℕ) → length ts ≤ length (if b then ts else ts ++ t ∷ [])
+pub texts_more : (b : Bool) (ts : List (List ℕ)) (t : List ℕ) → length ts ≤ length (if b then ts else ts ++ t ∷ [])
 texts_more true ts t = omega arith
 texts_more false ts t = omega (arith, length_push ts t)
 
@@ -88,7 +88,7 @@ valid_text w t start h = record {
   parents = h.parents;
 }
 
-start_text : (s : Store) (t : List ℕ) → HasStart s → HasStart (with_text t s)
+pub start_text : (s : Store) (t : List ℕ) → HasStart s → HasStart (with_text t s)
 start_text s t h = record {
   objects = h.objects;
   text_count = omega (arith, h.text_count, more s t);
@@ -97,65 +97,11 @@ start_text s t h = record {
 
 -- ---- agreement
 
-passes_text : (m : Matching) (w1 : World) (rest rest1 : Option ℕ → Type 0) (r : ℕ) (e n : Option ℕ)
-    → ((e1 : Option ℕ) → rest e1 → rest1 e1) → Passes m w1 n rest r e → Passes m w1 n rest1 r e
-passes_text m w1 rest rest1 r e None go h = go e h
-passes_text m w1 rest rest1 r e (Some n) go h = (h.0, h.1, h.2, go (w1.environments h.0).parent h.3)
-
-stands_text : (layout : Layout) (m : Matching) (w w1 : World) (t : List ℕ) (ss : List Scope) (rs : List ℕ) (top : ℕ)
-    (e : Option ℕ) → Stands layout m w w1 ss rs top e → Stands layout m (keeping (Text t) w) w1 ss rs top e
-stands_text layout m w w1 t [] [] top e h = tt
-stands_text layout m w w1 t (s ∷ ss) (r ∷ rs) top e h = record {
-  live = h.live;
-  scope = h.scope;
-  absent = h.absent;
-  next = passes_text m w1 _ _ r e (layout.count s) (λ e1 h1. stands_text layout m w w1 t ss rs r e1 h1) h.next;
-}
-stands_text layout m w w1 t [] (r ∷ rs) top e h = h
-stands_text layout m w w1 t (s ∷ ss) [] top e h = h
-
-closures_text : (layout : Layout) (m : Matching) (w w1 : World) (t : List ℕ) (k k1 : Kind)
-    → SameClosures layout m w w1 k k1 → SameClosures layout m (keeping (Text t) w) w1 k k1
-closures_text layout m w w1 t (Function c) (Function c1) h =
-    stands_text layout m w w1 t (layout.around c.function) c.records w.record_count c1.environment h
-closures_text layout m w w1 t k k1 h = tt
-
-held_stays : (s s1 : Store) → Grows s s1 → (x : Binding) → IfSome x (λ v. IsLive s v)
-    → binding_content s1 (Some x) ≡ binding_content s (Some x)
-held_stays s s1 g None live = refl
-held_stays s s1 g (Some v) live = ap (λ c. Some (Some c)) (content_stays s s1 g v live)
-
-binding_stays : (s s1 : Store) → Grows s s1 → (b : Option Binding) → IsLiveBinding s b
-    → binding_content s1 b ≡ binding_content s b
-binding_stays s s1 g None live = refl
-binding_stays s s1 g (Some x) live = held_stays s s1 g x live
-
-bindings_text : (layout : Layout) (w w1 : World) (t : List ℕ) (r e : ℕ) → IsValid w → SameBindings layout w w1 r e
-    → SameBindings layout (keeping (Text t) w) w1 r e
-bindings_text layout w w1 t r e valid h = record {
-  live = h.live;
-  live_environment = h.live_environment;
-  slots = h.slots;
-  same = λ name i is.
-      binding_stays w.store (with_text t w.store) (grows_text t w.store) _ (valid.records r name h.live)
-      ∙ h.same name i is;
-}
-
 pub agree_text : (layout : Layout) (m : Matching) (w w1 : World) (t : List ℕ) → Agree layout m w w1
     → Agree layout m (keeping (Text t) w) w1
-agree_text layout m w w1 t h = record {
-  valid = valid_text w t h.start h.valid;
-  valid_other = h.valid_other;
-  start = start_text w.store t h.start;
-  start_other = h.start_other;
-  pairs = λ r e is. bindings_text layout w w1 t r e h.valid (h.pairs r e is);
-  one_environment = h.one_environment;
-  one_record = h.one_record;
-  objects = objects_stay w (with_text t w.store) (grows_text t w.store) h.valid ∙ h.objects;
-  closures = λ o. closures_text layout m w w1 t _ _ (h.closures o);
-  symbols = symbols_stay w (with_text t w.store) (grows_text t w.store) h.valid ∙ h.symbols;
-  globals = globals_stay w (with_text t w.store) (grows_text t w.store) h.valid ∙ h.globals;
-  lines = h.lines;
-  turns = h.turns;
-  calls = h.calls;
-}
+agree_text layout m w w1 t h =
+    agree_store layout m w w1 (with_text t w.store) w1.store h (grows_text t w.store) (record { texts = λ n lt. refl })
+    (valid_text w t h.start h.valid) h.valid_other (start_text w.store t h.start) h.start_other
+    (objects_stay w (with_text t w.store) (grows_text t w.store) h.valid ∙ h.objects) h.closures
+    (symbols_stay w (with_text t w.store) (grows_text t w.store) h.valid ∙ h.symbols)
+    (globals_stay w (with_text t w.store) (grows_text t w.store) h.valid ∙ h.globals)

@@ -5,3 +5,4 @@ pub mod Agreement
 pub mod Replies
 pub mod Same
 pub mod Correct
+pub mod Endings

@@ -1,5 +1,5 @@
 -- Correct code: it does what the function's tree does, from every start and for every list of replies.
-use Rattle.std.specs.Prelude.{◌≡◌, ℕ}
+use Rattle.std.specs.Prelude.{◌≡◌, ◌<◌, ℕ}
 use Rattle.hz_value.specs.world.World.{World}
 use Rattle.hz_value.specs.system.System.{Meaning, Invocation}
 use Rattle.hz_ecma.specs.evaluator.Steps.{Trees, script_activation, tree_entered}
@@ -28,3 +28,9 @@ pub record Correct (T : Type 0) (other : Meaning T) (layout : Layout) (trees : T
   pub by : (n : ℕ) (m : Matching) (w w1 : World) (i i1 : Invocation) → Agree layout m w w1
       → SameInvocation layout m w w1 k i i1
       → Simulates T other layout n m (tree_entered trees i) w (other.enter i1) w1
+
+-- the script and the other functions of its source, `count` with the script
+pub record CorrectSource (T : Type 0) (other : Meaning T) (layout : Layout) (trees : Trees) (count : ℕ) (script : T)
+    : Type 0 where
+  pub of_script : CorrectScript T other layout trees script
+  pub of_functions : (k : ℕ) → 0 < k → k < count → Correct T other layout trees k

@@ -75,7 +75,8 @@ pub record Allowed (layout : Layout) (own : List ℕ) (m : Matching) (w w1 : Wor
   pub keeps : (r : ℕ) → Contains own r → Keeps layout w w2 r
 
 -- From one act to the next: a record that was there and is none of the activation's own keeps its bindings without a
--- slot, and each own record in scope at the next act was one before or is new.
+-- slot; each own record in scope at the next act was one before or is new; and where all were live, all are.
 pub record IsQuiet (layout : Layout) (own : List ℕ) (w : World) (own2 : List ℕ) (w2 : World) : Type 0 where
   pub keeps : (r : ℕ) → r < w.record_count → (Contains own r → ⊥) → Keeps layout w w2 r
   pub new : (r : ℕ) → r < w.record_count → Contains own2 r → Contains own r
+  pub live : ((r : ℕ) → Contains own r → r < w.record_count) → (r : ℕ) → Contains own2 r → r < w2.record_count
