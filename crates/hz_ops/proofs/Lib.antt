@@ -6,3 +6,4 @@ mod CodeExamples
 pub mod Running
 pub mod Rows
 pub mod Registers
+mod code

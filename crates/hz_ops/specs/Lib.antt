@@ -5,3 +5,4 @@ pub mod Contents
 pub mod Activations
 pub mod Step
 pub mod Runs
+pub mod code

@@ -118,7 +118,7 @@ call next a r callee this first n =
 
 -- ---- the step
 
--- the row of this operation, on these operands
+-- the row of this operation, on these operands; those that are not here have their rows in `code/Rows`
 abbrev pub row : Module → ℕ → Activation → List Operand → Op → Next
 row m next a os op.LoadUndefined = at_register os a (load_undefined next a)
 row m next a os op.LoadInt = at_register_int os a (load_int next a)
@@ -129,6 +129,7 @@ row m next a os op.Sub = at_three_registers os a (arithmetic difference_of next 
 row m next a os op.Mul = at_three_registers os a (arithmetic product_of next a)
 row m next a os op.Return = at_register os a (return_from a)
 row m next a os op.Call = at_call os a (call next a)
+row m next a os other = Does Beyond a
 
 -- the step of an instruction of so many bytes
 abbrev pub instruction_step : Module → Activation → Instr × ℕ → Next

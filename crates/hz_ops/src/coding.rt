@@ -4,9 +4,9 @@ ghost use Rattle.hz_ops.specs.Table.{kinds_of};
 ghost use Rattle.hz_ops.specs.Coding.{operands_at, operands_fit, operand_bytes, first_byte, front, decode_at, spelling, fits_of};
 
 use crate::instr::Instr;
-use crate::op::{Op, Operand, OperandKind};
-use crate::shape::Shape;
-use crate::table::{number_of, op_at, table};
+use crate::op::{Op, Operand};
+use crate::shape::{are_operands, read_operands, write_operands};
+use crate::table::{kinds_of, number_of, op_at};
 use arrayvec::ArrayVec;
 
 /// Whether the operands have the shape of the operation, and each fits the form.
@@ -82,28 +82,14 @@ fn operands_at(op: Op, long: bool, bytes: &[u8]) -> Option<(ArrayVec<Operand, 5>
         ≡ operands_at long (kinds_of op) bytes.now }
     ensures left { IfSome result (λ r. length r.1.now ≤ length bytes.now) }
 {
-    macro_rules! read_arms {
-        ([$op:expr, $long:expr, $bytes:expr] $($n:literal $name:ident [$($kind:ident),*],)*) => {
-            match $op {
-                $(Op::$name => Shape { kinds: [$(OperandKind::$kind),*] }.read($long, $bytes),)*
-            }
-        };
-    }
-    table!(read_arms op, long, bytes)
+    read_operands(kinds_of(op), long, bytes)
 }
 
 /// Whether these are the operation's operands, each with room in its bytes.
 pub(crate) fn operands_fit(op: Op, long: bool, args: &[Operand]) -> bool
     ensures { result ≡ operands_fit long (kinds_of op) args.now }
 {
-    macro_rules! fit_arms {
-        ([$op:expr, $long:expr, $args:expr] $($n:literal $name:ident [$($kind:ident),*],)*) => {
-            match $op {
-                $(Op::$name => Shape { kinds: [$(OperandKind::$kind),*] }.holds($long, $args),)*
-            }
-        };
-    }
-    table!(fit_arms op, long, args)
+    are_operands(kinds_of(op), long, args)
 }
 
 /// Writes the operands behind the first byte, and gives the place behind them.
@@ -115,14 +101,5 @@ fn put_operands(op: Op, long: bool, args: &[Operand], buf: &mut [u8]) -> usize
         ++ operand_bytes long (kinds_of op) args.now }
     ensures back { drop result buf.new ≡ drop result buf.old }
 {
-    macro_rules! write_arms {
-        ([$op:expr, $long:expr, $args:expr, $buf:expr] $($n:literal $name:ident [$($kind:ident),*],)*) => {
-            match $op {
-                $(Op::$name => {
-                    Shape { kinds: [$(OperandKind::$kind),*] }.write($long, $args, $buf, 1)
-                })*
-            }
-        };
-    }
-    table!(write_arms op, long, args, buf)
+    write_operands(kinds_of(op), long, args, buf, 1)
 }

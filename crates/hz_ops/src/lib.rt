@@ -6,11 +6,13 @@
 // again, whatever follows, and what is read is written as the same bytes. Both laws are clauses of
 // these calls. No call takes memory but `push_instr`.
 //
-// What code does when it runs is a definition alone, in `specs/Step.antt` and `specs/Runs.antt`. A code
-// generator promises its code's meaning by it, and an interpreter promises to follow it.
+// What code does when it runs is a definition alone, in `specs/code`: a meaning of functions in the shape of the
+// system of `hz_value`, whose step is the row of the instruction in hand. A code generator promises its code's meaning
+// by it, and an interpreter promises to follow it. `specs/Step.antt` and `specs/Runs.antt` are those of first texts.
 #![tactic(auto)]
 
 mod coding;
+mod held;
 mod instr;
 mod laws;
 mod number;
@@ -18,9 +20,10 @@ mod op;
 mod operand;
 mod shape;
 mod table;
+pub mod tested;
 
 pub use coding::{decode, encode_into, fits};
+pub use held::Held;
 pub use instr::{Instr, push_instr};
 pub use laws::{ended_is_built, lines_grow, one_end, read_in_place, step_by_step};
 pub use op::{Op, Operand, OperandKind};
-pub use shape::Shape;

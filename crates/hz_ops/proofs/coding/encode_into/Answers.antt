@@ -29,3 +29,12 @@ put_operands-requires-clause-room c =
       few_kinds c.args.i.now.op,
       length-set c.args.buf.now 0 c.first_byte.result,
     )
+
+pub returns-clause-most : goal.returns-clause-most
+returns-clause-most c =
+    omega (
+      arith,
+      c.put_operands.ensures.place,
+      bytes_at_most c.args.i.now.long (kinds_of c.args.i.now.op) c.as_slice.result.now,
+      few_kinds c.args.i.now.op,
+    )

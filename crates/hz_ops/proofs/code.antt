@@ -1,0 +1,3 @@
+pub mod Running
+mod RowExamples
+mod BadCodeExamples

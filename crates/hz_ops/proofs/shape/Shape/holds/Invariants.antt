@@ -1,8 +1,0 @@
-use Rattle.std.proofs.Common.{◌≡◌, drop}
-use Rattle.hz_ops.specs.Coding.{operands_fit}
-use Rattle.hz_ops.proofs.shape.Shape.holds.Given as goal
-
--- what is left decides
-abbrev pub invariant-loop-kind : goal.invariant-loop-kind
-invariant-loop-kind g l =
-    operands_fit l.long (drop l.kind-index l.self.kinds) l.left ≡ operands_fit l.long l.self.kinds l.fn.args
