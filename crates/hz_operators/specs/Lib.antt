@@ -1,0 +1,4 @@
+pub mod Outcomes
+pub mod NumberOperators
+pub mod Orders
+pub mod Sums
