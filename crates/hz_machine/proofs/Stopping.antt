@@ -1,0 +1,44 @@
+-- What comes of an operator without a result.
+use Rattle.std.proofs.Common.{◌≡◌, ℕ, List, ap, ◌∙◌, sym}
+use Rattle.std.specs.Prelude.{Result, Ok, Err, IfOk, Bool}
+use Rattle.hz_value.specs.operators.Computed.{Computed, Gives, and_then}
+use Rattle.hz_value.specs.operators.Contents.{Content, Boolean, Text}
+use Rattle.hz_value.specs.world.World.{Line}
+use Rattle.hz_operators.specs.declared.halt.Halt.{Halt}
+use Rattle.hz_operators.specs.declared.halt.Halt.TheVariants as halt
+use Rattle.hz_operators.specs.Outcomes.{Halted}
+use Rattle.hz_ops.specs.code.Activations.{Activation}
+use Rattle.hz_ops.specs.code.Effects.{gives}
+use Rattle.hz_machine.specs.declared.act.Act.{Act}
+use Rattle.hz_machine.specs.Frames.{next_of}
+use Rattle.hz_machine.specs.Kept.{KeptWorld, world_of}
+use Rattle.hz_machine.specs.Effects.{Follows, Stops}
+
+gives_stop : (act : Act) (cause : Halt) (old new : KeptWorld) (c : Computed Content) → Halted cause c →
+    Stops act cause old new → (next to : ℕ) (a : Activation) (lines : List Line) →
+    next_of act a (world_of lines new) ≡ gives next a (world_of lines old) to c
+gives_stop act halt.Symbol old new c e h next to a lines =
+    h a lines ∙ ap (gives next a (world_of lines old) to) (sym e)
+gives_stop act (halt.Leaves reason) old new c e h next to a lines =
+    h a lines ∙ ap (gives next a (world_of lines old) to) (sym e)
+gives_stop act halt.Memory old new c e h next to a lines = absurd h
+
+-- the act of an operator without a result is that of the row
+module _ (cause : Halt) (old new : KeptWorld) where
+  pub given : {E : Type 0} (result : Result Act E) (c : Computed Content) (next to : ℕ) (a : Activation) →
+      Halted cause c → IfOk result (λ act. Stops act cause old new) →
+      Follows result a new (λ lines. gives next a (world_of lines old) to c)
+  given (Ok act) c next to a e h = λ lines. gives_stop act cause old new c e h next to a lines
+  given (Err m) c next to a e h = tt
+
+pub boolean_halted : (cause : Halt) (c : Computed Bool) → Halted cause c →
+    Halted cause (and_then c (λ b. Gives (Boolean b)))
+boolean_halted halt.Symbol c e = ap (λ x. and_then x (λ b. Gives (Boolean b))) e
+boolean_halted (halt.Leaves reason) c e = ap (λ x. and_then x (λ b. Gives (Boolean b))) e
+boolean_halted halt.Memory c e = tt
+
+pub text_halted : (cause : Halt) (c : Computed (List ℕ)) → Halted cause c →
+    Halted cause (and_then c (λ t. Gives (Text t)))
+text_halted halt.Symbol c e = ap (λ x. and_then x (λ t. Gives (Text t))) e
+text_halted (halt.Leaves reason) c e = ap (λ x. and_then x (λ t. Gives (Text t))) e
+text_halted halt.Memory c e = tt

@@ -1,0 +1,10 @@
+pub mod Errors
+pub mod Globals
+pub mod Kept
+pub mod Frames
+pub mod Effects
+pub mod Tests
+pub mod Classes
+pub mod Routines
+pub mod Machines
+pub mod Descriptions

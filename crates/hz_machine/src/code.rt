@@ -1,0 +1,42 @@
+ghost use Rattle.std.specs.Prelude.{◌≡◌, ◌+◌, ◌<◌, ◌^◌, IfOk, IfSome, option_map};
+ghost use Rattle.hz_ops.specs.code.Activations.{Program};
+
+use hz_ops::Instr;
+use hz_value::Memory;
+use std::alloc::Global;
+
+/// Whether a function has code.
+#[derive(Clone, Copy, Debug, PartialEq, Eq)]
+pub enum Entry {
+    /// It has none yet.
+    Stub,
+
+    /// It has.
+    Code,
+}
+
+/// The code that a machine runs. Contracts see the program that it stands for.
+pub trait Code {
+    ghost program: { Self → Program };
+
+    /// How many functions there are. The script is function 0.
+    fn count(&self) -> u32;
+
+    /// Whether the function has code.
+    fn entry(&self, f: u32) -> Entry;
+
+    /// How many registers the function has.
+    fn registers(&self, f: u32) -> u64
+        ensures { result ≡ (program self.now).registers f };
+
+    /// The instruction at this place of the function, and its length in bytes; None where no whole instruction stands
+    /// there. Code has fewer than 2^63 bytes.
+    fn fetch(&self, f: u32, pc: u64) -> Option<(Instr, u64)>
+        ensures value { result ≡ (program self.now).fetch f pc }
+        ensures bound { IfSome result (λ r. pc + r.1 < 2 ^ 63) };
+
+    /// The units of the text with this number, None where there is none.
+    fn string(&self, alloc: Global, id: u64) -> Result<Option<Vec<u16>>, Memory>
+        ensures { IfOk result
+            (λ text. option_map (λ t. t.items) text ≡ (program self.now).text id) };
+}
