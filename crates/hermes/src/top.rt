@@ -11,7 +11,7 @@ use crate::source::run_source;
 use crate::status::Status;
 use crate::words::{Command, command_of};
 use hz_io::{FileFault, Files, Sink, Source};
-use hz_preparse::MAX_LENGTH;
+use hz_tree::MAX_LENGTH;
 use hz_value::Steps;
 use std::alloc::Global;
 use std::sync::ledger::Ledger;

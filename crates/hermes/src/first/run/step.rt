@@ -85,6 +85,7 @@ fn row<'a>(
             let operands = call_operands(operands)?;
             spoken(rows::call(alloc, registers, operands))
         }
+        _ => Err(Stop::Unbuilt),
     }
 }
 
