@@ -1,7 +1,8 @@
 // The machine that runs code.
 //
 // The layer above relies on this: the machine is the system of `hz_value` over the meaning of code of `hz_ops`, and a
-// step of it is one step of that system.
+// step of it is one step of that system. The layer hands in code by the trait `Code`, and calls `Machine::start`, `step`,
+// `turns_left` and `describe`.
 #![tactic(auto)]
 
 mod act;
@@ -20,10 +21,4 @@ mod steps;
 mod texts;
 
 pub use code::{Code, Entry};
-pub use errors::{ErrorKind, MadeError};
-pub use frame::{Frame, Reply};
-pub use globals::{Globals, Refused, Slot};
-pub use kept::Kept;
-pub use machine::{Answer, Ending, Machine, Status};
-pub use routine::Routine;
-pub use texts::Texts;
+pub use machine::{Answer, Ending, Machine};
