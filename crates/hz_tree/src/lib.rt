@@ -40,7 +40,7 @@ pub use outside::{BadKind, OutsideKind};
 pub use place::Place;
 pub use profile::ProfileKind;
 pub use refusal::{MAX_LENGTH, Refusal};
-pub use scope::{BindingKind, ScopeKind};
+pub use scope::{BindingKind, ScopeAt, ScopeKind};
 pub use signal::{Jump, NodeKind, NodeShape, Role, Signal};
 pub use symbol::Symbol;
 pub use token::{Token, TokenKind};

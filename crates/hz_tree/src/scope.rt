@@ -18,6 +18,16 @@ pub enum ScopeKind {
     Catch,
 }
 
+/// A scope of a source.
+#[derive(Clone, Copy, Debug, PartialEq, Eq)]
+pub struct ScopeAt {
+    /// The number of its function.
+    pub function: u32,
+
+    /// Its number among the scopes of that function.
+    pub scope: u32,
+}
+
 /// How a scope declares a name.
 #[derive(Clone, Copy, Debug, PartialEq, Eq)]
 pub enum BindingKind {

@@ -8,6 +8,7 @@ use Rattle.hz_tree.specs.declared.operator.DeclarationWord.{DeclarationWord}
 use Rattle.hz_tree.specs.declared.operator.DeclarationWord.TheVariants as word
 use Rattle.hz_tree.specs.declared.scope.BindingKind.{BindingKind}
 use Rattle.hz_tree.specs.declared.scope.BindingKind.TheVariants as binding
+use Rattle.hz_tree.specs.declared.scope.ScopeAt.{ScopeAt}
 use Rattle.hz_tree.specs.declared.scope.ScopeKind.{ScopeKind}
 use Rattle.hz_tree.specs.declared.scope.ScopeKind.TheVariants as scope
 use Rattle.hz_tree.specs.declared.tree.Bound.{Bound}
@@ -35,8 +36,11 @@ pub record Scope : Type 0 where
   pub parent : Option ℕ
   pub names : List ScopeName
 
--- the scopes in the order of their starts, outer ones first
+-- the scopes in the order of their starts, outer ones first. `around` is the scope in which the function stands, and
+-- `binds` tells that it binds `this`, `new.target` and `arguments`
 pub record FunctionScopes : Type 0 where
+  pub around : Option ScopeAt
+  pub binds : Bool
   pub scopes : List Scope
   pub free : List Text
 
@@ -115,22 +119,36 @@ scope_names binds declared here =
 abbrev pub ScopesIn : Type 0
 ScopesIn = (binds : Bool) → (around next : ℕ) → List Scope
 
+-- the functions in it, where it stands in the function with the number `outer`, and the next function has the number
+-- `number`
+abbrev pub FunctionsIn : Type 0
+FunctionsIn = (binds : Bool) → (around next outer number : ℕ) → List FunctionScopes
+
 pub record Scoping : Type 0 where
   pub declared : List Declared  -- what it declares in the scopes round it
   pub here : List Text  -- the names that are used in it, but in no scope or function within
   pub used : List Used  -- the names that are used in it and that no scope or function within declares
   pub scopes : ScopesIn
-  pub functions : List FunctionScopes
+  pub functions : FunctionsIn
 
 abbrev pub no_scopes : ScopesIn
 no_scopes binds around next = []
+
+abbrev pub no_functions : FunctionsIn
+no_functions binds around next outer number = []
 
 abbrev pub scopes_both : ScopesIn → ScopesIn → ScopesIn
 scopes_both first second binds around next =
     let scopes = first binds around next in scopes ++ second binds around (next + length scopes)
 
+abbrev pub functions_both : ScopesIn → FunctionsIn → FunctionsIn → FunctionsIn
+functions_both scopes first second binds around next outer number =
+    let functions = first binds around next outer number in
+    functions
+    ++ second binds around (next + length (scopes binds around next)) outer (number + length functions)
+
 abbrev pub nothing : Scoping
-nothing = record { declared = []; here = []; used = []; scopes = no_scopes; functions = [] }
+nothing = record { declared = []; here = []; used = []; scopes = no_scopes; functions = no_functions }
 
 abbrev pub both : Scoping → Scoping → Scoping
 both first second = record {
@@ -138,7 +156,7 @@ both first second = record {
   here = first.here ++ second.here;
   used = first.used ++ second.used;
   scopes = scopes_both first.scopes second.scopes;
-  functions = first.functions ++ second.functions;
+  functions = functions_both first.scopes first.functions second.functions;
 }
 
 abbrev pub all_of : List Scoping → Scoping
@@ -166,6 +184,9 @@ own_scope kind start end declared within binds around next = record {
   names = scope_names binds declared (each_name [] within.here);
 } ∷ within.scopes binds next (suc next)
 
+abbrev pub own_functions : Scoping → FunctionsIn
+own_functions within binds around next outer number = within.functions binds next (suc next) outer number
+
 -- A var goes on outwards (8.2.6), and so does a name that the scope does not declare.
 abbrev pub in_scope : ScopeKind → (start end : ℕ) → (first : List Declared) → Scoping → Scoping
 in_scope kind start end first within = record {
@@ -173,7 +194,7 @@ in_scope kind start end first within = record {
   here = [];
   used = outside (lexical_of first within) within.used;
   scopes = own_scope kind start end (lexical_of first within) within;
-  functions = within.functions;
+  functions = own_functions within;
 }
 
 -- ---- functions
@@ -204,25 +225,33 @@ top_scope kind binds start end declared here = record {
   names = scope_names binds declared (each_name [] here);
 }
 
--- the scopes and the free names of a function with these parameters
+-- the scopes and the free names of a function with these parameters that stands there
 abbrev pub scopes_of : ScopeKind → FunctionKind → (start end : ℕ) → (parameters : List Declared) → Scoping
-    → FunctionScopes
-scopes_of scope kind start end parameters body =
+    → Option ScopeAt → FunctionScopes
+scopes_of scope kind start end parameters body around =
     let binds = binds_this kind in
     let declared = top_declared binds parameters body in
     record {
+      around = around;
+      binds = binds;
       scopes = top_scope scope binds start end declared body.here ∷ body.scopes binds 0 1;
       free = free_names binds declared body.used;
     }
 
+-- a function and those within it, which stand in it
+abbrev pub functions_of_one : (Option ScopeAt → FunctionScopes) → (within : FunctionsIn) → FunctionsIn
+functions_of_one function within binds around next outer number =
+    let this = function (Some (record { function = outer; scope = around })) in
+    this ∷ within this.binds 0 1 number (suc number)
+
 -- what is free in a function is used by it where it stands
-abbrev pub of_function : FunctionScopes → (inner : List FunctionScopes) → Scoping
-of_function function inner = record {
+abbrev pub of_function : (Option ScopeAt → FunctionScopes) → (within : FunctionsIn) → Scoping
+of_function function within = record {
   declared = [];
   here = [];
-  used = map (λ name. record { name = name; inner = true }) function.free;
+  used = map (λ name. record { name = name; inner = true }) (function None).free;
   scopes = no_scopes;
-  functions = function ∷ inner;
+  functions = functions_of_one function within;
 }
 
 -- its name: a declaration declares it where it stands, an expression in a scope round it
@@ -282,4 +311,4 @@ scoping_of = fold-Tree Scoping scoping_layer
 unfoldable pub function_scopes_of : Text → Tree → List FunctionScopes
 function_scopes_of source script =
     let within = scoping_of script in
-    scopes_of scope.Script kind.Script 0 (length source) [] within ∷ within.functions
+    scopes_of scope.Script kind.Script 0 (length source) [] within None ∷ within.functions false 0 1 0 1
