@@ -79,7 +79,9 @@ impl<'a> Names<'a> {
         Ok(())
     }
 
-    /// Drops all names but the first `len` ones.
+    /// Drops all names but the first `len` ones. Most scopes declare none of a sort, so the test stands where it is
+    /// called.
+    #[inline(always)]
     pub fn truncate(&mut self, len: usize)
         ensures { self.new ≡ take len self.old }
     {
@@ -89,6 +91,7 @@ impl<'a> Names<'a> {
     }
 
     /// Drops the last name.
+    #[inline(never)]
     fn pop(&mut self)
         ensures { self.new ≡ take (length self.old - 1) self.old }
     {

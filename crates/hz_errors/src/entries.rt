@@ -1,6 +1,6 @@
 use crate::limit::with_limit;
 use hz_list::Memory;
-use hz_tree::LimitKind;
+use hz_tree::{LimitKind, MAX_DEPTH};
 use std::alloc::Global;
 use std::marker::Model;
 
@@ -132,9 +132,6 @@ ghost use Rattle.hz_tree.specs.errors.Limits.{least_each, deeper};
 ghost use Rattle.hz_tree.specs.sources.Kinds.{order_of_limit};
 ghost use Rattle.hz_errors.specs.Found.{noted};
 ghost use Rattle.hz_errors.specs.Runs.{run_levels, lowered, KeepsBelow};
-
-/// The most levels.
-const MAX_DEPTH: usize = 400;
 
 /// With the errors of what stands deeper than the most levels.
 fn nesting(

@@ -1,7 +1,7 @@
 use crate::entries::Entries;
 use crate::limit::with_limit;
 use hz_list::Memory;
-use hz_tree::LimitKind;
+use hz_tree::{LimitKind, MAX_LISTED};
 use std::alloc::Global;
 use std::marker::Model;
 
@@ -141,9 +141,6 @@ impl Levels {
 ghost use Rattle.std.specs.Prelude.{◌≡◌, reverse};
 ghost use Rattle.hz_errors.specs.Levels.{more_counts, is_full, top_place};
 
-/// The most parameters of a function, and arguments of a call.
-const MAX_LISTED: u8 = 254;
-
 /// One more in the innermost list. Whether it is the first one that is too many.
 fn count_one(counts: &mut Vec<u8>) -> bool
     ensures counted { reverse counts.new.items ≡ more_counts (reverse counts.old.items) }
@@ -155,5 +152,5 @@ fn count_one(counts: &mut Vec<u8>) -> bool
     }
     let count = counts[len - 1];
     counts[len - 1] = count.saturating_add(1);
-    count == MAX_LISTED
+    usize::from(count) == MAX_LISTED
 }

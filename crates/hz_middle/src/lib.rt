@@ -7,7 +7,6 @@
 // Each token is scanned twice at most; what is skipped is not scanned.
 #![tactic(auto)]
 
-mod braces;
 mod laws;
 mod middle;
 

@@ -3,9 +3,8 @@ ghost use Rattle.hz_tree.specs.tokens.Tokens.{lexeme, token_behind};
 ghost use Rattle.hz_middle.specs.Place as spec;
 ghost use Rattle.hz_middle.specs.Place.{Inside, first, past, place_of, seen_class, seen_newline};
 
-use crate::braces::Braces;
 use hz_list::{Memory, Steps};
-use hz_scan::{Scanner, class_of};
+use hz_scan::{Braces, Scanner, class_of};
 use hz_tree::{Class, Look, Token, TokenKind};
 use std::alloc::Global;
 use std::marker::Model;

@@ -21,7 +21,7 @@ impl Model for Braces {
 }
 
 impl Braces {
-    ghost use Rattle.std.specs.Prelude.{◌≡◌, [], OnOk, OnErr, slice_index};
+    ghost use Rattle.std.specs.Prelude.{◌≡◌, [], OnOk, OnErr, drop, slice_index};
     ghost use Rattle.hz_tree.specs.tokens.Tokens as spec;
 
     /// No brace is open.
@@ -33,13 +33,49 @@ impl Braces {
         }
     }
 
-    /// Whether the next token's `}` would go on with a template.
+    /// Whether a `}` goes on with a template here.
     pub fn in_hole(&self) -> bool
         ensures { result ≡ spec.in_hole self.now }
     {
-        match self.open.last() {
-            Some(opened) => *opened,
-            None => false,
+        self.open.last().copied().unwrap_or(false)
+    }
+
+    /// Whether a `}` goes on with a template behind this token.
+    pub fn in_hole_behind(&self, token: &Token<'_>) -> bool
+        ensures { result ≡ spec.in_hole (spec.braces (spec.lexeme token.now) self.now) }
+    {
+        match token.kind {
+            TokenKind::Punct => self.in_hole_behind_punctuator(token.text),
+            TokenKind::Template {
+                first: true,
+                last: false,
+            } => true,
+            TokenKind::Template {
+                first: false,
+                last: true,
+            } => self.in_outer_hole(),
+            _ => self.in_hole(),
+        }
+    }
+
+    fn in_hole_behind_punctuator(&self, text: &[u8]) -> bool
+        ensures { result
+            ≡ spec.in_hole (spec.braces_by TokenKind.Punct (slice_index text.now 0) self.now) }
+    {
+        match byte(text, 0) {
+            b'{' => false,
+            b'}' => self.in_outer_hole(),
+            _ => self.in_hole(),
+        }
+    }
+
+    /// Whether a `}` goes on with a template behind the innermost brace.
+    fn in_outer_hole(&self) -> bool
+        ensures { result ≡ spec.in_hole (drop 1 self.now) }
+    {
+        match self.open.len() {
+            0 | 1 => false,
+            len => self.open[len - 2],
         }
     }
 

@@ -3,7 +3,7 @@
 //
 // The layer above relies on this: a `Scanner` is a source and a place in it, and `next` gives the token that
 // hz_tree's `specs/tokens/Tokens.antt` has behind the place; it takes no memory. `Tokens` is the list of the source's
-// tokens that are left, with memory for the braces that are open. The text of a token is the source's slice at its
+// tokens that are left, with memory for the braces that are open (`Braces`). The text of a token is the source's slice at its
 // place. `laws.rt` says that tokens lie one behind the other, and what comes where a scan starts in the middle.
 // `has_value` compares the value of a string literal with bytes, and takes no memory either.
 #![tactic(auto)]
@@ -30,6 +30,7 @@ mod tokens;
 mod values;
 mod words;
 
+pub use braces::Braces;
 pub use class::class_of;
 pub use first::first_token_len;
 pub use laws::{tokens_from_the_middle, tokens_in_order};
