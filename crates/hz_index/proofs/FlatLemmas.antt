@@ -1,19 +1,21 @@
 -- A table of scopes as it is stored, and as it is shown.
 use Rattle.std.proofs.Common.{◌≡◌, ℕ, ◌-◌, ◌≤◌, List, [], ◌∷◌, ◌++◌, length, map, take, drop, refl, ap, sym, ◌∙◌, arith}
-use Rattle.std.proofs.Common.{Option, Some, None}
+use Rattle.std.proofs.Common.{Bool, Option, Some, None}
 use Rattle.std.proofs.lemmas.List.{take-append-le, drop-append-le, length-drop, take_rest}
 use Rattle.std.proofs.lemmas.List.{map-set, drop-map, take-map, drop_all, drop_at}
 use Rattle.std.proofs.lemmas.Option.{slice_get-map}
 use Rattle.std.specs.Option.{option_map}
 use Rattle.std.proofs.lemmas.List.Elements.{All-head, All-tail, All-take, All-drop, All-weaker}
 use Rattle.std.specs.List.{All, slice_get, slice_set}
-use Rattle.hz_tree.specs.trees.FunctionScopes.{ScopeName}
+use Rattle.hz_tree.specs.declared.scope.ScopeAt.{ScopeAt}
+use Rattle.hz_tree.specs.trees.FunctionScopes.{ScopeName, FunctionScopes}
 use Rattle.hz_index.specs.Table.{with_name, with_end}
 use Rattle.hz_index.specs.Table.{with_function_end}
 use Rattle.hz_index.specs.declared.flat.Part.{Part}
 use Rattle.hz_index.specs.declared.flat.FlatScope.{FlatScope}
 use Rattle.hz_index.specs.declared.flat.FlatFunction.{FlatFunction}
-use Rattle.hz_index.specs.Flat.{part_of, shown_scope, shown_function, shown, IsWithin, HasNames, HasParts, IsFlat}
+use Rattle.hz_index.specs.Flat.{part_of, around_of, shown_scope, shown_function, shown, IsWithin, HasNames, HasParts}
+use Rattle.hz_index.specs.Flat.{IsFlat}
 use Rattle.hz_index.specs.Flat.{with_names}
 
 -- ---- more at the end of a list changes no part of it
@@ -54,12 +56,9 @@ functions_named : (names more : List ScopeName) (scopes : List FlatScope) (funct
 functions_named names more scopes functions h i =
     map_agree (HasParts (length scopes) (length names)) (shown_function (names ++ more) scopes)
     (shown_function names scopes) (λ f p.
-    ap (λ ns. record {
-      scopes = map (shown_scope (names ++ more)) (part_of f.scopes scopes);
-      free = map (λ n. n.name) ns;
-    })
+    ap (λ ns. record (shown_function (names ++ more) scopes f) { free = map (λ n. n.name) ns })
     (part_more f.free names more p.1)
-    ∙ ap (λ ss. record { scopes = ss; free = map (λ n. n.name) (part_of f.free names) })
+    ∙ ap (λ ss. record (shown_function names scopes f) { scopes = ss })
     (scopes_more names more (part_of f.scopes scopes)
     (All-take (HasNames (length names)) (f.scopes.past - f.scopes.first) (drop f.scopes.first scopes)
     (All-drop (HasNames (length names)) f.scopes.first scopes h)))) functions i
@@ -69,7 +68,7 @@ functions_more : (names : List ScopeName) (scopes more : List FlatScope) (settle
     → map (shown_function names (scopes ++ more)) functions ≡ map (shown_function names scopes) functions
 functions_more names scopes more settled =
     map_agree (HasParts (length scopes) settled) (shown_function names (scopes ++ more)) (shown_function names scopes)
-    (λ f p. ap (λ ss. record { scopes = map (shown_scope names) ss; free = map (λ n. n.name) (part_of f.free names) })
+    (λ f p. ap (λ ss. record (shown_function names scopes f) { scopes = map (shown_scope names) ss })
     (part_more f.scopes scopes more p.0))
 
 -- ---- calls
@@ -131,50 +130,54 @@ module _ (names : List ScopeName) (settled : ℕ) (scopes listed : List FlatScop
       (ap (λ ss. record { functions = map (shown_function names scopes) functions; listed = ss; pending = [] })
       (scope_ended place end (slice_get listed place)))
 
-  module _ (number from : ℕ) where
+  module _ (number from : ℕ) (at : ScopeAt) (binds : Bool) where
     unfoldable ended : FlatFunction
     ended = record {
+      around = at;
+      binds = binds;
       scopes = record { first = length scopes; past = length (scopes ++ drop from listed) };
       free = record { first = settled; past = length names };
     }
 
-    ended_shown : shown_function names (scopes ++ drop from listed) ended
-        ≡ record { scopes = drop from (map (shown_scope names) listed); free = map (λ n. n.name) (drop settled names) }
+    -- the function that ends, as it is shown
+    abbrev known : FunctionScopes
+    known = record {
+      around = around_of at;
+      binds = binds;
+      scopes = drop from (map (shown_scope names) listed);
+      free = map (λ n. n.name) (drop settled names);
+    }
+
+    ended_shown : shown_function names (scopes ++ drop from listed) ended ≡ known
     unfolding ended
     ended_shown =
-        ap (λ ss. record {
+        ap (λ ss. record known {
           scopes = map (shown_scope names) ss;
           free = map (λ n. n.name) (part_of (record { first = settled; past = length names }) names);
         }) (take_rest (scopes ++ drop from listed) (length scopes)
         ∙ drop_at scopes (drop from listed) (length scopes) refl)
-        ∙ ap (λ ss. record {
+        ∙ ap (λ ss. record known {
           scopes = ss;
           free = map (λ n. n.name) (part_of (record { first = settled; past = length names }) names);
         }) (sym (drop-map (shown_scope names) from listed))
-        ∙ ap (λ ns. record {
-          scopes = drop from (map (shown_scope names) listed);
-          free = map (λ n. n.name) ns;
-        }) (take_rest names settled)
+        ∙ ap (λ ns. record known { free = map (λ n. n.name) ns }) (take_rest names settled)
 
     functions_ended : map (shown_function names (scopes ++ drop from listed)) (slice_set functions number ended)
-        ≡ slice_set (map (shown_function names scopes) functions) number (record {
-          scopes = drop from (map (shown_scope names) listed);
-          free = map (λ n. n.name) (drop settled names);
-        })
+        ≡ slice_set (map (shown_function names scopes) functions) number known
     functions_ended =
         map-set (shown_function names (scopes ++ drop from listed)) functions number ended
         ∙ ap (λ f. slice_set (map (shown_function names (scopes ++ drop from listed)) functions) number f) ended_shown
-        ∙ ap (λ fs. slice_set fs number (record {
-          scopes = drop from (map (shown_scope names) listed);
-          free = map (λ n. n.name) (drop settled names);
-        })) (functions_more names scopes (drop from listed) settled functions flat.of_functions)
+        ∙ ap (λ fs. slice_set fs number known)
+        (functions_more names scopes (drop from listed) settled functions flat.of_functions)
 
     pub function_end_shown : shown names (length names) (scopes ++ drop from listed) (take from listed)
         (slice_set functions number (record {
+          around = at;
+          binds = binds;
           scopes = record { first = length scopes; past = length (scopes ++ drop from listed) };
           free = record { first = settled; past = length names };
         }))
-        ≡ with_function_end number from (shown names settled scopes listed functions)
+        ≡ with_function_end number from (around_of at) binds (shown names settled scopes listed functions)
     unfolding ended
     function_end_shown =
         ap (λ fs. record {
@@ -183,12 +186,12 @@ module _ (names : List ScopeName) (settled : ℕ) (scopes listed : List FlatScop
           pending = drop (length names) names;
         }) functions_ended
         ∙ ap (λ ss. record {
-          functions = (with_function_end number from (shown names settled scopes listed functions)).functions;
+          functions = slice_set (map (shown_function names scopes) functions) number known;
           listed = ss;
           pending = drop (length names) names;
         }) (sym (take-map (shown_scope names) from listed))
         ∙ ap (λ ns. record {
-          functions = (with_function_end number from (shown names settled scopes listed functions)).functions;
+          functions = slice_set (map (shown_function names scopes) functions) number known;
           listed = take from (map (shown_scope names) listed);
           pending = ns;
         }) (drop_all (length names) names (omega arith))

@@ -1,3 +1,4 @@
 pub mod NamesLemmas
 pub mod FlatLemmas
-pub mod SameCount
+pub mod Standing
+pub mod Rooted

@@ -3,6 +3,7 @@
 use Rattle.std.specs.Prelude.{ℕ, ◌≤◌, ◌==◌, if◌then◌else◌, List, length, map, drop, slice_get, slice_set, slice_range}
 use Rattle.std.specs.Prelude.{Option, Some, None}
 use Rattle.std.specs.List.{All}
+use Rattle.hz_tree.specs.declared.scope.ScopeAt.{ScopeAt}
 use Rattle.hz_tree.specs.trees.FunctionScopes.{ScopeName, Scope, FunctionScopes}
 use Rattle.hz_index.specs.Table.{Table}
 use Rattle.hz_index.specs.declared.flat.Part.{Part}
@@ -18,6 +19,10 @@ part_of part xs = slice_range xs part.first part.past
 abbrev pub parent_of : ℕ → Option ℕ
 parent_of number = if number == 4294967295 then None else Some number
 
+-- and for no function round one
+abbrev pub around_of : ScopeAt → Option ScopeAt
+around_of at = if at.function == 4294967295 then None else Some at
+
 abbrev pub shown_scope : List ScopeName → FlatScope → Scope
 shown_scope names s = record {
   kind = s.kind;
@@ -29,6 +34,8 @@ shown_scope names s = record {
 
 abbrev pub shown_function : List ScopeName → List FlatScope → FlatFunction → FunctionScopes
 shown_function names scopes f = record {
+  around = around_of f.around;
+  binds = f.binds;
   scopes = map (shown_scope names) (part_of f.scopes scopes);
   free = map (λ n. n.name) (part_of f.free names);
 }

@@ -3,3 +3,4 @@ pub mod Names
 pub mod Flat
 pub mod Views
 pub mod Holds
+pub mod Standing

@@ -1,5 +1,7 @@
 -- The scopes of functions as they become known, from the first to the last.
-use Rattle.std.specs.Prelude.{ℕ, List, [], ◌∷◌, ◌++◌, map, take, drop, slice_get, slice_set, Option, Some, None}
+use Rattle.std.specs.Prelude.{ℕ, Bool, false, List, [], ◌∷◌, ◌++◌, map, take, drop, slice_get, slice_set, Option, Some}
+use Rattle.std.specs.Prelude.{None}
+use Rattle.hz_tree.specs.declared.scope.ScopeAt.{ScopeAt}
 use Rattle.hz_tree.specs.declared.scope.ScopeKind.{ScopeKind}
 use Rattle.hz_tree.specs.trees.FunctionScopes.{ScopeName, Scope, FunctionScopes}
 
@@ -15,7 +17,7 @@ empty = record { functions = []; listed = []; pending = [] }
 
 -- nothing is known of a function that has not ended
 abbrev pub nothing_known : FunctionScopes
-nothing_known = record { scopes = []; free = [] }
+nothing_known = record { around = None; binds = false; scopes = []; free = [] }
 
 abbrev pub with_function : Table → Table
 with_function t = record t { functions = t.functions ++ nothing_known ∷ [] }
@@ -41,11 +43,13 @@ with_end place end t = record {
   pending = [];
 }
 
--- The function of this number ends. Its scopes are those that are listed from this place on, and the names that came
--- last are free in it.
-abbrev pub with_function_end : (number from : ℕ) → Table → Table
-with_function_end number from t = record {
+-- The function of this number ends. It stands there, and binds `this` or not. Its scopes are those that are listed from
+-- this place on, and the names that came last are free in it.
+abbrev pub with_function_end : (number from : ℕ) → (around : Option ScopeAt) → (binds : Bool) → Table → Table
+with_function_end number from around binds t = record {
   functions = slice_set t.functions number (record {
+    around = around;
+    binds = binds;
     scopes = drop from t.listed;
     free = map (λ n. n.name) t.pending;
   });

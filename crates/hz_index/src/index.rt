@@ -1,7 +1,7 @@
 use crate::names::Names;
 use crate::scopes::Scopes;
 use crate::table::ScopeTable;
-use hz_tree::{FunctionInfo, FunctionInfos};
+use hz_tree::{FunctionInfo, FunctionInfos, ScopeAt};
 use std::marker::Model;
 
 /// A source that is not refused, and what is known of its functions. Function 0 is the script.
@@ -25,7 +25,7 @@ impl<'a> Model for Index<'a> {
     ghost invariant = { λ i. Holds i.source.now i.strict i.functions i.scopes };
 }
 
-#[tactic(auto, using(crate::proofs::SameCount::same_count))]
+#[tactic(auto, using(crate::proofs::Standing::same_count))]
 impl<'a> Index<'a> {
     ghost use Rattle.std.specs.Prelude.{◌≡◌, ◌<◌, length, slice_get, Some, None};
     ghost use Rattle.std.specs.Option.{option_map};
@@ -79,6 +79,24 @@ impl<'a> Index<'a> {
         ensures { slice_get (functions_in self.now.source) k ≡ Some result.now }
     {
         self.functions.at(k)
+    }
+
+    /// The scope in which the function with this number stands; None exactly for the script. A function expression with
+    /// a name stands in the scope of that name.
+    pub fn around(&self, k: u32) -> Option<ScopeAt>
+        requires { k < length (functions_in self.now.source) }
+        ensures { option_map (λ f. f.around) (slice_get (function_scopes self.now.source) k) ≡ Some result }
+    {
+        self.scopes.around(k)
+    }
+
+    /// Whether the function with this number binds `this`, `new.target` and `arguments` at its activation: each does
+    /// but the script and an arrow (ECMA-262, 10.2.1.1 and 10.2.11).
+    pub fn binds(&self, k: u32) -> bool
+        requires { k < length (functions_in self.now.source) }
+        ensures { option_map (λ f. f.binds) (slice_get (function_scopes self.now.source) k) ≡ Some result }
+    {
+        self.scopes.binds(k)
     }
 
     /// The scopes of the function with this number, in the order of their starts. A scope stands for an environment

@@ -2,12 +2,12 @@ use crate::flat::{FlatFunction, FlatScope, Part};
 use crate::names::{NameList, Names};
 use crate::scopes::Scopes;
 use hz_list::Memory;
-use hz_tree::{BindingKind, ScopeKind};
+use hz_tree::{BindingKind, ScopeAt, ScopeKind};
 use std::alloc::Global;
 use std::marker::Model;
 
 /// The scopes and the free names of functions, while they become known. Contracts see a `Table`. A name takes 18
-/// bytes, a scope 32 and a function 16.
+/// bytes, a scope 32 and a function 28.
 #[derive(Debug, Drop)]
 pub struct ScopeTable<'a> {
     names: NameList<'a>,
@@ -76,6 +76,8 @@ impl<'a> ScopeTable<'a> {
         }
         let none = Part { first: 0, past: 0 };
         self.functions.push(FlatFunction {
+            around: nowhere(),
+            binds: false,
             scopes: none,
             free: none,
         })?;
@@ -83,7 +85,8 @@ impl<'a> ScopeTable<'a> {
     }
 
     /// A scope begins at a place in bytes, and is listed behind the others. `parent` is the number of the scope round
-    /// it in its function. Memory for 4294967295 scopes is never there.
+    /// it in its function. Memory for 4294967295 scopes is never there, so a parent with that number gives Memory: it
+    /// stands for none where scopes are stored.
     pub fn list_scope(
         &mut self,
         kind: ScopeKind,
@@ -124,22 +127,52 @@ impl<'a> ScopeTable<'a> {
         self.settled = names.past;
     }
 
-    /// The function with this number ends. Its scopes are those that are listed from this place on, and the names that
-    /// came last are free in it. Where there is no such function, the scopes and names are gone. Memory for more than
-    /// 4294967295 scopes is never there.
-    pub fn end_function(&mut self, number: u32, from: usize) -> Result<(), Memory>
-        ensures { OnOk result (self.new ≡ with_function_end number from self.old) }
+    /// The function with this number ends. It stands in the scope `around`, and binds `this`, `new.target` and
+    /// `arguments` or not. Its scopes are those that are listed from the place `from` on, and the names that came last
+    /// are free in it. Where there is no such function, the scopes and names are gone. Memory for more than 4294967295
+    /// scopes, or for a function in one with the number 4294967295, is never there.
+    pub fn end_function(
+        &mut self,
+        number: u32,
+        from: usize,
+        around: Option<ScopeAt>,
+        binds: bool,
+    ) -> Result<(), Memory>
+        ensures { OnOk result (self.new ≡ with_function_end number from around binds self.old) }
     {
+        let around = stored_around(around)?;
         let free = Part {
             first: self.settled,
             past: self.names.len(),
         };
         let first = from.min(self.listed.len());
         let scopes = settle(&mut self.scopes, &self.listed[first..])?;
-        set_function(&mut self.functions, number, FlatFunction { scopes, free });
+        let function = FlatFunction {
+            around,
+            binds,
+            scopes,
+            free,
+        };
+        set_function(&mut self.functions, number, function);
         self.listed.truncate(from);
         self.settled = free.past;
         Ok(())
+    }
+
+    /// The scope in which the function with this number stands; None for the script, and where it has not ended.
+    pub fn around(&self, number: u32) -> Option<ScopeAt>
+        requires { number < length self.now.functions }
+        ensures { option_map (λ f. f.around) (slice_get self.now.functions number) ≡ Some result }
+    {
+        shown_around(self.functions[number as usize].around)
+    }
+
+    /// Whether the function with this number binds `this`, `new.target` and `arguments`; false where it has not ended.
+    pub fn binds(&self, number: u32) -> bool
+        requires { number < length self.now.functions }
+        ensures { option_map (λ f. f.binds) (slice_get self.now.functions number) ≡ Some result }
+    {
+        self.functions[number as usize].binds
     }
 
     /// The scopes of the function with this number, none where it has not ended.
@@ -165,7 +198,7 @@ impl<'a> ScopeTable<'a> {
 }
 
 ghost use Rattle.std.specs.Prelude.{◌≡◌, ◌≤◌, ◌++◌, length, slice_set, IfOk, OnOk, OnErr};
-ghost use Rattle.hz_index.specs.Flat.{parent_of, with_names};
+ghost use Rattle.hz_index.specs.Flat.{parent_of, around_of, with_names};
 
 /// A parent as it is stored.
 fn stored_parent(parent: Option<u32>) -> Result<u32, Memory>
@@ -176,6 +209,33 @@ fn stored_parent(parent: Option<u32>) -> Result<u32, Memory>
         Some(number) if number < 4294967295 => Ok(number),
         Some(_) => Err(Memory),
     }
+}
+
+/// No scope, as one is stored in which a function stands.
+fn nowhere() -> ScopeAt
+    ensures { result ≡ record { function = 4294967295; scope = 0 } }
+{
+    ScopeAt {
+        function: 4294967295,
+        scope: 0,
+    }
+}
+
+/// The scope in which a function stands, as it is stored.
+fn stored_around(around: Option<ScopeAt>) -> Result<ScopeAt, Memory>
+    ensures { IfOk result (λ stored. around_of stored ≡ around) }
+{
+    match around {
+        None => Ok(nowhere()),
+        Some(at) if at.function < 4294967295 => Ok(at),
+        Some(_) => Err(Memory),
+    }
+}
+
+fn shown_around(stored: ScopeAt) -> Option<ScopeAt>
+    ensures { result ≡ around_of stored }
+{
+    (stored.function != 4294967295).then_some(stored)
 }
 
 /// The scope at this place ends, and has these names.

@@ -8,9 +8,10 @@ use Rattle.std.proofs.lemmas.List.Elements.{filter-append}
 use Rattle.std.specs.List.{filter}
 use Rattle.hz_tree.specs.errors.Declarations.{is_var}
 use Rattle.hz_tree.specs.tokens.Text.{Text}
-use Rattle.hz_tree.specs.trees.FunctionScopes.{Declared, Scoping, each_declared, each_name, with_declared, with_name}
+use Rattle.hz_tree.specs.trees.FunctionScopes.{FunctionScopes, Declared, Scoping, each_declared, each_name}
+use Rattle.hz_tree.specs.trees.FunctionScopes.{with_declared, with_name}
 use Rattle.hz_tree.specs.trees.FunctionScopes.{nothing, both, all_of, is_lexical, at_top}
-use Rattle.hz_scopes.specs.State.{OpenScope, Body, Known}
+use Rattle.hz_scopes.specs.State.{OpenScope, Body, Known, innermost}
 
 -- ---- what is meant, done
 
@@ -46,11 +47,16 @@ acted_in x (s ∷ outer) body = record body {
 abbrev pub acted_body : Scoping → Body → Body
 acted_body x body = acted_in x body.blocks body
 
+-- behind these functions
+abbrev pub acted_functions : Scoping → Body → List FunctionScopes → List FunctionScopes
+acted_functions x body fs =
+    fs ++ x.functions body.binds (innermost body).number (length body.listed) body.number (length fs)
+
 abbrev pub acted : Scoping → Known → Known
 acted x k = record {
   body = acted_body x k.body;
   outer = k.outer;
-  functions = k.functions ++ x.functions;
+  functions = acted_functions x k.body k.functions;
 }
 
 -- ---- names one after the other
@@ -83,12 +89,21 @@ both_in x y [] body =
 both_in x y (s ∷ outer) body =
     simp (append_assoc, length-append, declared_append, name_append, filter-append)
 
+both_functions : (x y : Scoping) (blocks : List OpenScope) (body : Body) (fs : List FunctionScopes)
+    → acted_functions y (acted_in x blocks body) (acted_functions x (record body { blocks = blocks }) fs)
+    ≡ acted_functions (both x y) (record body { blocks = blocks }) fs
+both_functions x y [] body fs = simp (append_assoc, length-append)
+both_functions x y (s ∷ outer) body fs = simp (append_assoc, length-append)
+
 pub acted_both : (x y : Scoping) (k : Known) → acted y (acted x k) ≡ acted (both x y) k
 acted_both x y k =
-    ap (λ body. record { body = body; outer = k.outer; functions = (k.functions ++ x.functions) ++ y.functions })
-    (both_in x y k.body.blocks k.body)
+    ap (λ body. record {
+      body = body;
+      outer = k.outer;
+      functions = acted_functions y (acted_body x k.body) (acted_functions x k.body k.functions);
+    }) (both_in x y k.body.blocks k.body)
     ∙ ap (λ fs. record { body = acted_body (both x y) k.body; outer = k.outer; functions = fs })
-    (append_assoc k.functions x.functions y.functions)
+    (both_functions x y k.body.blocks k.body k.functions)
 
 pub acted_append : (xs ys : List Scoping) (k : Known)
     → acted (all_of ys) (acted (all_of xs) k) ≡ acted (all_of (xs ++ ys)) k
@@ -99,7 +114,7 @@ acted_append (x ∷ xs) ys k =
 
 -- ---- what was listed gives way to what is known then
 
-one_longer : {A : Type 0} (xs : List A) (x : A) → length (xs ++ x ∷ []) ≡ suc (length xs)
+pub one_longer : {A : Type 0} (xs : List A) (x : A) → length (xs ++ x ∷ []) ≡ suc (length xs)
 one_longer xs x = length-append xs (x ∷ []) ∙ omega arith
 
 pub set_listed : {A : Type 0} (xs : List A) (x y : A) (more : ℕ → List A)

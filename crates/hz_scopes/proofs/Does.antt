@@ -1,5 +1,5 @@
 -- Events that do what a tree means: one after the other, and with events beside them that do nothing to what is known.
-use Rattle.std.proofs.Common.{◌≡◌, ℕ, List, [], ◌∷◌, ◌++◌, Option, Some, None, refl, sym, ap, ◌∙◌, append-nil}
+use Rattle.std.proofs.Common.{◌≡◌, ℕ, List, [], ◌∷◌, ◌++◌, length, Option, Some, None, refl, sym, ap, ◌∙◌, append-nil}
 use Rattle.hz_tree.specs.declared.operator.DeclarationWord.{DeclarationWord}
 use Rattle.hz_tree.specs.declared.operator.DeclarationWord.TheVariants as word
 use Rattle.hz_tree.specs.declared.scope.BindingKind.{BindingKind}
@@ -21,13 +21,14 @@ use Rattle.hz_tree.specs.tokens.Text.{Text}
 use Rattle.hz_tree.specs.trees.Events.{told_statement, told_operand, told_part, told_literal, told_scope, told_catch}
 use Rattle.hz_tree.specs.trees.Events.{told_rest}
 use Rattle.hz_tree.specs.trees.Events.{told_parameters, told_function, told_jump, end_of}
-use Rattle.hz_tree.specs.trees.FunctionScopes.{Declared, Scoping, nothing, both, all_of, using, binding_of, in_scope}
+use Rattle.hz_tree.specs.trees.FunctionScopes.{FunctionScopes, Declared, Scoping, nothing, both, all_of, using}
+use Rattle.hz_tree.specs.trees.FunctionScopes.{binding_of, in_scope}
 use Rattle.hz_tree.specs.trees.FunctionScopes.{in_for, caught, this_name, target_name, parameters_of, scopes_of}
-use Rattle.hz_tree.specs.trees.FunctionScopes.{of_function, with_form}
+use Rattle.hz_tree.specs.trees.FunctionScopes.{FunctionsIn, no_functions, of_function, with_form}
 use Rattle.hz_scopes.specs.State.{State, Known, Body, happens, after, in_body, begin_scope, end_scope, enter, close}
-use Rattle.hz_scopes.specs.State.{use_name, declare, open_function, name_function}
-use Rattle.hz_scopes.proofs.Acts.{acted, acted_body, acted_nothing, acted_both, acted_append, both_in}
-use Rattle.hz_scopes.proofs.ScopeEnds.{begun_with, named, declares_one, declares, uses, scope_ends}
+use Rattle.hz_scopes.specs.State.{innermost, use_name, declare, open_function, name_function}
+use Rattle.hz_scopes.proofs.Acts.{acted, acted_body, acted_functions, acted_nothing, acted_both, acted_append, both_in}
+use Rattle.hz_scopes.proofs.ScopeEnds.{begun_with, named, declares_one, declares, uses, scope_ends, scope_functions}
 use Rattle.hz_scopes.proofs.FunctionEnds.{whole, nameless_ends, declared_ends, named_ends}
 
 pub record Does (es : List Event) (x : Scoping) : Type 0 where
@@ -103,13 +104,15 @@ jumps jump (Some label) = behind (λ s. refl) none
 
 -- one event that does this to the innermost function
 in_one : {e : Event} {x : Scoping} (f : Body → Body) → ((s : State) → (happens s e).known ≡ (in_body f s).known)
-    → ((body : Body) → f body ≡ acted_body x body) → x.functions ≡ [] → Does (e ∷ []) x
+    → ((body : Body) → f body ≡ acted_body x body) → x.functions ≡ no_functions → Does (e ∷ []) x
 in_one {e} {x} f h i j = record {
   known = λ s.
       let k = s.known in
+      let at : FunctionsIn → List FunctionScopes =
+      λ fs. fs k.body.binds (innermost k.body).number (length k.body.listed) k.body.number (length k.functions) in
       h s ∙ ap (λ b. record { body = b; outer = k.outer; functions = k.functions }) (i k.body)
       ∙ ap (λ fs. record { body = acted_body x k.body; outer = k.outer; functions = fs })
-      (sym (ap (λ fs. k.functions ++ fs) j ∙ append-nil k.functions));
+      (sym (ap (λ fs. k.functions ++ at fs) j ∙ append-nil k.functions));
 }
 
 pub identifier : (at : ℕ) (name : Text) → Does (Named tell.Name at name ∷ []) (using name)
@@ -167,8 +170,17 @@ module _ {es : (List Event)} {x : Scoping} (h : Does es x) where
   scope_does kind start end first k s i =
       ap (λ t. t.known) (after_append s es (Placed tell.EndScope end ∷ []))
       ∙ ap (λ (k : Known). record k { body = end_scope end k.body }) (h.known s ∙ ap (acted x) i)
-      ∙ ap (λ b. record { body = b; outer = k.outer; functions = k.functions ++ x.functions })
-      (scope_ends kind start end first x k.body)
+      ∙ ap (λ b. record {
+        body = b;
+        outer = k.outer;
+        functions = acted_functions x (begun_with first kind start k.body) k.functions;
+      }) (scope_ends kind start end first x k.body)
+      ∙ ap (λ fs. record {
+        body = acted_body (in_scope kind start end first x) k.body;
+        outer = k.outer;
+        functions = fs;
+      })
+      (scope_functions kind start end first x k.body k.functions)
 
   pub scope_here : {kind : ScopeKind} {start end : ℕ}
       → Does (Placed (tell.ScopeHere kind) start ∷ (es ++ Placed tell.EndScope end ∷ []))

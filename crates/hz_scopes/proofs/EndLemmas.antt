@@ -100,7 +100,8 @@ pub functions_behind : (s : OpenScopes) (end : ℕ) → IsWhole s
     → (with_body_end end s).functions
     ≡ slice_set s.table.functions s.body.number (ended_body end (body_of s.body [] (held_by s)))
 functions_behind s end whole =
-    let make : List Scope → List Text → FunctionScopes = λ scopes free. record { scopes = scopes; free = free } in
+    let make : List Scope → List Text → FunctionScopes =
+    λ scopes free. record { around = s.body.around; binds = s.body.binds; scopes = scopes; free = free } in
     let set : FunctionScopes → List FunctionScopes = λ f. slice_set s.table.functions s.body.number f in
     let free = map (λ (n : ScopeName). n.name) (map (λ name. record { name = name; binding = None }) (free_of s)) in
     ap (λ (l : Layers Scope). set (make l.inner free)) (top_ends s end whole).0

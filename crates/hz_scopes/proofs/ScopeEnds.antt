@@ -6,12 +6,14 @@ use Rattle.hz_tree.specs.declared.scope.BindingKind.{BindingKind}
 use Rattle.hz_tree.specs.declared.scope.BindingKind.TheVariants as binding
 use Rattle.hz_tree.specs.declared.scope.ScopeKind.{ScopeKind}
 use Rattle.hz_tree.specs.tokens.Text.{Text}
-use Rattle.hz_tree.specs.trees.FunctionScopes.{Scope, FunctionScopes, Declared, Used, Scoping, each_declared, each_name}
+use Rattle.hz_tree.specs.trees.FunctionScopes.{Scope, FunctionScopes, FunctionsIn, Declared, Used, Scoping}
+use Rattle.hz_tree.specs.trees.FunctionScopes.{each_declared, each_name}
 use Rattle.hz_tree.specs.trees.FunctionScopes.{nothing, in_scope, own_scope, outside, lexical_of, at_top}
 use Rattle.hz_tree.specs.trees.FunctionScopes.{using, scope_names}
 use Rattle.hz_scopes.specs.State.{OpenScope, Body, innermost, declare, declaring, use_name, pass_on}
 use Rattle.hz_scopes.specs.State.{open_scope, end_scope}
-use Rattle.hz_scopes.proofs.Acts.{vars, lexicals, declaring_all, acted_in, acted_body, set_listed}
+use Rattle.hz_scopes.proofs.Acts.{vars, lexicals, declaring_all, acted_in, acted_body, acted_functions, set_listed}
+use Rattle.hz_scopes.proofs.Acts.{one_longer}
 
 -- ---- names
 
@@ -55,13 +57,13 @@ uses_in name (s ∷ outer) body = quiet (use_name name (record body { blocks = s
 pub uses : (name : Text) (body : Body) → use_name name body ≡ acted_body (using name) body
 uses name body = uses_in name body.blocks body
 
-passes_in : (used : List Used) (functions : List FunctionScopes) (blocks : List OpenScope) (body : Body)
+passes_in : (used : List Used) (functions : FunctionsIn) (blocks : List OpenScope) (body : Body)
     → pass_on used (record body { blocks = blocks })
     ≡ acted_in (record nothing { used = used; functions = functions }) blocks body
 passes_in used functions [] body = quiet (pass_on used (record body { blocks = [] }))
 passes_in used functions (s ∷ outer) body = quiet (pass_on used (record body { blocks = s ∷ outer }))
 
-pub passes : (used : List Used) (functions : List FunctionScopes) (body : Body)
+pub passes : (used : List Used) (functions : FunctionsIn) (body : Body)
     → pass_on used body ≡ acted_body (record nothing { used = used; functions = functions }) body
 passes used functions body = passes_in used functions body.blocks body
 
@@ -170,3 +172,11 @@ module _ (kind : ScopeKind) (start end : ℕ) (first : List Declared) (x : Scopi
       → end_scope end (acted_body x (begun_with first kind start body))
       ≡ acted_body (in_scope kind start end first x) body
   scope_ends body = scope_ends_in body.blocks body
+
+  -- what stands in the scope stands in this one
+  pub scope_functions : (body : Body) (fs : List FunctionScopes)
+      → acted_functions x (begun_with first kind start body) fs
+      ≡ acted_functions (in_scope kind start end first x) body fs
+  scope_functions body fs =
+      ap (λ next. fs ++ x.functions body.binds (length body.listed) next body.number (length fs))
+      (one_longer body.listed (unended kind start (Some (innermost body).number)))

@@ -46,7 +46,7 @@ within_block b h = record {
   listed = pushed (unended b.kind b.start (Some b.parent)) h.listed;
 }
 
-number_shown : (b : OpenBody) (blocks : List Block) (h : Held) → (innermost (body_of b blocks h)).number ≡ number_of
+pub number_shown : (b : OpenBody) (blocks : List Block) (h : Held) → (innermost (body_of b blocks h)).number ≡ number_of
     blocks
 number_shown b [] h = refl
 number_shown b (block ∷ blocks) h = refl

@@ -4,6 +4,7 @@ use Rattle.std.specs.Prelude.{Some, None}
 use Rattle.hz_index.specs.Table.{unended, nothing_known}
 use Rattle.hz_tree.specs.declared.operator.DeclarationWord.TheVariants as word
 use Rattle.hz_tree.specs.declared.scope.BindingKind.TheVariants as binding
+use Rattle.hz_tree.specs.declared.scope.ScopeAt.{ScopeAt}
 use Rattle.hz_tree.specs.declared.scope.ScopeKind.{ScopeKind}
 use Rattle.hz_tree.specs.declared.scope.ScopeKind.TheVariants as scope
 use Rattle.hz_tree.specs.declared.signal.Role.{Role}
@@ -30,11 +31,13 @@ pub record OpenScope : Type 0 where
   pub here : List Text
   pub used : List Used
 
--- A function whose scope has begun and that has not ended: its number, whether it binds `this`, whether a scope of its
--- own name stands round it, its scopes in the order of their starts (one that has not ended has no names yet, and its
--- start as its end), the scope of its parameters and body, and the open scopes in that, the innermost first.
+-- A function whose scope has begun and that has not ended: its number, the scope in which it stands, whether it binds
+-- `this`, whether a scope of its own name stands round it, its scopes in the order of their starts (one that has not
+-- ended has no names yet, and its start as its end), the scope of its parameters and body, and the open scopes in that,
+-- the innermost first.
 pub record Body : Type 0 where
   pub number : ℕ
+  pub around : Option ScopeAt
   pub binds : Bool
   pub named : Bool
   pub listed : List Scope
@@ -65,6 +68,10 @@ pub record State : Type 0 where
 
 abbrev pub innermost : Body → OpenScope
 innermost body = elim body.blocks [ [] ↦ body.top | s ∷ outer ↦ s ]
+
+-- where a function stands that begins in this one
+abbrev pub place_in : Body → ScopeAt
+place_in body = record { function = body.number; scope = (innermost body).number }
 
 abbrev pub change_innermost : (OpenScope → OpenScope) → Body → Body
 change_innermost f body =
@@ -143,9 +150,10 @@ end_scope end body =
 
 -- ---- functions begin and end
 
-abbrev pub body_of : ScopeKind → Waiting → Body
-body_of scope waiting = record {
+abbrev pub body_of : ScopeKind → Waiting → (around : Option ScopeAt) → Body
+body_of scope waiting around = record {
   number = waiting.number;
+  around = around;
   binds = binds_this waiting.kind;
   named = waiting.named;
   listed = unended scope waiting.start None ∷ [];
@@ -159,6 +167,8 @@ declared_at_end body = activation body.binds body.top.used ++ body.top.declared
 -- the scopes and the free names of a function that ends
 abbrev pub of_body : (end : ℕ) → Body → FunctionScopes
 of_body end body = record {
+  around = body.around;
+  binds = body.binds;
   scopes = slice_set body.listed 0 (ended body.binds end (declared_at_end body) body.top);
   free = free_names body.binds (declared_at_end body) body.top.used;
 }
@@ -185,7 +195,10 @@ close end known =
     ]
 
 abbrev pub enter : Waiting → Known → Known
-enter waiting known = record known { body = body_of scope.Function waiting; outer = known.body ∷ known.outer }
+enter waiting known = record known {
+  body = body_of scope.Function waiting (Some (place_in known.body));
+  outer = known.body ∷ known.outer;
+}
 
 -- ---- events
 
@@ -242,7 +255,7 @@ abbrev pub begun : State
 begun = record {
   begun = 0;
   waiting = script;
-  known = record { body = body_of scope.Script script; outer = []; functions = nothing_known ∷ [] };
+  known = record { body = body_of scope.Script script None; outer = []; functions = nothing_known ∷ [] };
 }
 
 -- at the end of a source of so many bytes

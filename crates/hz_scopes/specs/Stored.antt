@@ -58,6 +58,7 @@ number_of (b ∷ outer) = b.number
 abbrev pub body_of : OpenBody → List Block → Held → Body
 body_of b blocks h = record {
   number = b.number;
+  around = b.around;
   binds = b.binds;
   named = b.named;
   listed = h.listed.inner;
@@ -173,7 +174,7 @@ with_top_end end s =
 
 abbrev pub with_body_end : (end : ℕ) → OpenScopes → Table
 with_body_end end s =
-    with_function_end s.body.number (first_start s.listed) (record (with_top_end end s) {
+    with_function_end s.body.number (first_start s.listed) s.body.around s.body.binds (record (with_top_end end s) {
       pending = map (λ name. record { name = name; binding = None }) (free_of s);
     })
 

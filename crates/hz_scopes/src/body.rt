@@ -1,4 +1,4 @@
-use hz_tree::{FunctionKind, ScopeKind};
+use hz_tree::{FunctionKind, ScopeAt, ScopeKind};
 use std::alloc::Global;
 
 /// A scope of a function that has begun within its outermost one, and has not ended.
@@ -19,6 +19,9 @@ pub struct Block {
 pub struct OpenBody {
     /// Its number among the functions of the source.
     pub number: u32,
+
+    /// The scope in which it stands; the script stands in none.
+    pub around: Option<ScopeAt>,
 
     /// It binds `this`, `new.target` and `arguments`.
     pub binds: bool,
@@ -53,9 +56,15 @@ fn binds_this(kind: FunctionKind) -> bool
     !matches!(kind, FunctionKind::Script | FunctionKind::Arrow)
 }
 
-/// The function that waits, where its scope begins.
-pub fn body_of(alloc: Global, kind: ScopeKind, waiting: WaitingFunction) -> OpenBody
+/// The function that waits, where its scope begins within the scope `around`.
+pub fn body_of(
+    alloc: Global,
+    kind: ScopeKind,
+    waiting: WaitingFunction,
+    around: Option<ScopeAt>,
+) -> OpenBody
     ensures number { result.number ≡ waiting.number }
+    ensures around { result.around ≡ around }
     ensures binds { result.binds ≡ does_bind_this waiting.kind }
     ensures named { result.named ≡ waiting.named }
     ensures kind { result.kind ≡ kind }
@@ -64,6 +73,7 @@ pub fn body_of(alloc: Global, kind: ScopeKind, waiting: WaitingFunction) -> Open
 {
     OpenBody {
         number: waiting.number,
+        around,
         binds: binds_this(waiting.kind),
         named: waiting.named,
         kind,

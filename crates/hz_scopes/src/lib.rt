@@ -4,9 +4,9 @@
 // (`State` of `specs/State.antt`), or as None once functions stand deeper than the limit. `tell` is `heard` of
 // `specs/Depth.antt`, and `finish` gives the table of all functions. Uses are kept by name, so the end of a scope takes
 // out those of what it declares and passes over no others; what stands in a scope goes to the one round it without a
-// copy. Work is linear in the events, in what functions list and in what is free in them. `scopes_are_found` is the law
-// that what is known behind the events of a script is what its tree says, and `scopes_are_kept` that it is kept where
-// no limit is passed.
+// copy. Names are hashed, so the work that is expected is linear in the events, in what functions list and in what is
+// free in them; names that all fall together under the hash cost more. `scopes_are_found` is the law that what is known
+// behind the events of a script is what its tree says, and `scopes_are_kept` that it is kept where no limit is passed.
 #![tactic(auto)]
 
 mod body;

@@ -7,7 +7,7 @@ use crate::starts::Starts;
 use crate::uses::Uses;
 use hz_index::ScopeTable;
 use hz_list::Memory;
-use hz_tree::{BindingKind, DeclarationWord, FunctionKind, Role, ScopeKind, Signal};
+use hz_tree::{BindingKind, DeclarationWord, FunctionKind, Role, ScopeAt, ScopeKind, Signal};
 use std::alloc::Global;
 
 /// What is known of the scopes of a source's functions behind some of its events.
@@ -47,7 +47,7 @@ impl<'a> OpenScopes<'a> {
     ghost use Rattle.std.specs.Prelude.{◌≡◌, ◌<◌, [], ◌∷◌, ◌++◌, Bool, length, drop, OnOk, IfOk};
     ghost use Rattle.hz_scopes.specs.State.{in_body, use_name as with_use, declare as with_declaration};
     ghost use Rattle.hz_scopes.specs.State.{declare_lexical as with_lexical, begin_scope as with_scope};
-    ghost use Rattle.hz_scopes.specs.State.{end_scope as with_end_of_scope};
+    ghost use Rattle.hz_scopes.specs.State.{end_scope as with_end_of_scope, place_in};
     ghost use Rattle.hz_scopes.specs.State.{close as with_close, begun as at_start, finished};
     ghost use Rattle.hz_scopes.specs.State.{open_function as with_function, bind as with_role};
     ghost use Rattle.hz_scopes.specs.State.{name_function as with_own_name};
@@ -74,7 +74,7 @@ impl<'a> OpenScopes<'a> {
         Ok(OpenScopes {
             begun: 0,
             waiting: script,
-            body: body_of(alloc, ScopeKind::Script, script),
+            body: body_of(alloc, ScopeKind::Script, script, None),
             outer: Vec::new(alloc),
             tops: Declarations::new(alloc),
             lexical: Declarations::new(alloc),
@@ -313,8 +313,12 @@ impl<'a> OpenScopes<'a> {
         self.end_top(end)?;
         let free = self.uses.names(self.alloc)?;
         add_free(&mut self.table, &free)?;
-        self.table
-            .end_function(self.body.number, self.listed.innermost())?;
+        self.table.end_function(
+            self.body.number,
+            self.listed.innermost(),
+            self.body.around,
+            self.body.binds,
+        )?;
         Ok(free)
     }
 
@@ -369,11 +373,23 @@ impl<'a> OpenScopes<'a> {
         Ok(())
     }
 
+    /// The innermost scope of all that are open.
+    #[tactic(auto, using(crate::proofs::ShownLemmas::number_shown))]
+    fn innermost_scope(&self) -> ScopeAt
+        ensures { result ≡ place_in (shown self.now).known.body }
+    {
+        ScopeAt {
+            function: self.body.number,
+            scope: innermost_number(&self.body.blocks),
+        }
+    }
+
     /// The scope of the function that waits begins.
     fn enter(&mut self) -> Result<(), Memory>
         requires { IsWhole self.old }
         ensures { OnOk result (Goes enters self.old self.new) }
     {
+        let around = self.innermost_scope();
         self.listed.open(self.table.listed())?;
         self.tops.open()?;
         self.here.open()?;
@@ -381,7 +397,7 @@ impl<'a> OpenScopes<'a> {
         let waiting = self.waiting;
         self.table
             .list_scope(ScopeKind::Function, waiting.start, None)?;
-        let body = body_of(self.alloc, ScopeKind::Function, waiting);
+        let body = body_of(self.alloc, ScopeKind::Function, waiting, Some(around));
         let outer = std::mem::replace(&mut self.body, body);
         self.outer.push(outer)?;
         Ok(())
