@@ -1,12 +1,10 @@
 ghost use Rattle.std.specs.Prelude.{◌≡◌, ◌++◌, OnOk, IfOk, string_bytes, option_to_list};
-ghost use Rattle.std.specs.List.{flat_map, enumerate_from};
-ghost use Rattle.std.specs.Option.{option_copied, option_map};
-ghost use Rattle.hz_index.specs.Names.{known_name};
-ghost use Rattle.hz_index.specs.Views.{known_scope};
+ghost use Rattle.std.specs.List.{flat_map};
+ghost use Rattle.std.specs.Option.{option_copied};
 ghost use Rattle.hz_front_dump.specs.Dump as spec;
 
-use hz_index::{Names, Scope, ScopeName, ScopeNames, Scopes};
-use hz_tree::{BindingKind, FunctionInfo, FunctionKind, ScopeKind};
+use hz_index::Names;
+use hz_tree::{FunctionInfo, FunctionKind};
 use std::alloc::{AllocError, Global};
 
 /// Adds the line of a function with this number and so many tokens of its own.
@@ -67,68 +65,8 @@ fn push_free_name(text: &mut Vec<u8>, name: Option<&[u8]>) -> Result<(), AllocEr
     Ok(())
 }
 
-/// Adds the lines of the scopes of a function, with their names.
-pub fn push_scopes(alloc: Global, text: &mut Vec<u8>, scopes: &Scopes<'_>) -> Result<(), AllocError>
-    ensures { OnOk result (text.new.items
-        ≡ text.old.items ++ flat_map spec.scope_lines (enumerate_from 0 scopes.now)) }
-{
-    for i in 0..scopes.len() {
-        push_scope(alloc, text, i, &scopes.get(i))?;
-    }
-    Ok(())
-}
-
-fn push_scope(
-    alloc: Global,
-    text: &mut Vec<u8>,
-    i: usize,
-    scope: &Option<Scope<'_>>,
-) -> Result<(), AllocError>
-    ensures { OnOk result (text.new.items ≡ text.old.items
-        ++ flat_map spec.scope_lines (enumerate_from i (option_to_list (option_map known_scope scope.now)))) }
-{
-    if let Some(scope) = scope {
-        let line = scope_line(alloc, i, scope)?;
-        text.extend_from_slice(line.as_bytes())?;
-        push_names(text, &scope.names)?;
-    }
-    Ok(())
-}
-
-fn scope_line(alloc: Global, i: usize, scope: &Scope<'_>) -> Result<String, AllocError>
-    ensures { IfOk result (λ line. string_bytes line ≡ spec.scope_line i (known_scope scope.now)) }
-{
-    let (start, end) = (scope.start, scope.end);
-    let kind = scope_word(scope.kind);
-    let parent = parent_word(alloc, scope.parent)?;
-    format!(in alloc; "scope {i} {kind} {start} {end} {parent}\n")
-}
-
-#[tactic(auto, using(crate::proofs::Written::lines_laws))]
-fn push_names(text: &mut Vec<u8>, names: &ScopeNames<'_>) -> Result<(), AllocError>
-    ensures { OnOk result (text.new.items ≡ text.old.items ++ flat_map spec.name_line names.now) }
-{
-    for i in 0..names.len() {
-        push_name(text, names.get(i))?;
-    }
-    Ok(())
-}
-
-fn push_name(text: &mut Vec<u8>, name: Option<ScopeName<'_>>) -> Result<(), AllocError>
-    ensures { OnOk result (text.new.items ≡ text.old.items
-        ++ flat_map spec.name_line (option_to_list (option_map known_name name.entry))) }
-{
-    if let Some(name) = name {
-        text.extend_from_slice(b"name ")?;
-        text.extend_from_slice(name.name)?;
-        text.extend_from_slice(b" ")?;
-        text.extend_from_slice(binding_word(name.binding).as_bytes())?;
-        text.extend_from_slice(b" -\n")?;
-    }
-    Ok(())
-}
-
-fn parent_word(alloc: Global, parent: Option<u32>) -> Result<String, AllocError>
+/// The number of what stands round something, or `-`.
+pub fn parent_word(alloc: Global, parent: Option<u32>) -> Result<String, AllocError>
     ensures { IfOk result (λ text. string_bytes text ≡ spec.parent_word parent) }
 {
     match parent {
@@ -146,33 +84,5 @@ fn kind_word(kind: FunctionKind) -> &'static str
         FunctionKind::Arrow => "arrow",
         FunctionKind::Method => "method",
         FunctionKind::Generator => "generator",
-    }
-}
-
-fn scope_word(kind: ScopeKind) -> &'static str
-    ensures { result.now ≡ spec.scope_word kind }
-{
-    match kind {
-        ScopeKind::Script => "script",
-        ScopeKind::Function => "function",
-        ScopeKind::Own => "own",
-        ScopeKind::Block => "block",
-        ScopeKind::Catch => "catch",
-    }
-}
-
-fn binding_word(binding: Option<BindingKind>) -> &'static str
-    ensures { result.now ≡ spec.binding_word binding }
-{
-    match binding {
-        None => "-",
-        Some(BindingKind::Var) => "var",
-        Some(BindingKind::Let) => "let",
-        Some(BindingKind::Const) => "const",
-        Some(BindingKind::BlockFunction) => "blockfunction",
-        Some(BindingKind::Parameter) => "parameter",
-        Some(BindingKind::Caught) => "caught",
-        Some(BindingKind::Own) => "own",
-        Some(BindingKind::Activation) => "activation",
     }
 }

@@ -8,7 +8,8 @@
 //     function K START END KIND LENGTH PARENT OWN      OWN: how many tokens are in its extent and in no inner one
 //     free NAME                                        for each name that is free in it
 //     scope I KIND START END PARENT                    for each scope, from 0, and behind it
-//     name NAME BINDING PLACE                          for each name of the scope; no name has a place yet
+//     name NAME BINDING PLACE                          for each name of the scope; PLACE is `register`,
+//                                                      `slot HOPS SLOT` or `global`
 #![tactic(auto)]
 
 ghost use Rattle.std.specs.Prelude.{◌≡◌, Some, None, IfOk};
@@ -20,6 +21,7 @@ mod dump;
 mod lines;
 mod own;
 mod places;
+mod scopes;
 
 use dump::dump_index;
 use hz_list::Memory;

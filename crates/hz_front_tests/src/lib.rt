@@ -7,6 +7,8 @@ mod cursor;
 #[cfg(test)]
 mod early;
 #[cfg(test)]
+mod layout;
+#[cfg(test)]
 mod middle;
 #[cfg(test)]
 mod rows;

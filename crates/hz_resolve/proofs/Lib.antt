@@ -1,0 +1,14 @@
+pub mod lemmas
+pub mod Declared
+pub mod Outwards
+pub mod Flat
+pub mod Counted
+pub mod Parts
+pub mod Building
+pub mod Standings
+pub mod Sites
+pub mod Mapped
+pub mod Taken
+pub mod Holding
+pub mod Joined
+pub mod Nested
