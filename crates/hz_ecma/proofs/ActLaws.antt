@@ -180,7 +180,7 @@ module _ (T : Type 0) (other : Meaning T) (layout : Layout) (trees : Trees) (cou
         → kind_content k ≡ kind_content k1
         → SameFrames (frame_for (tree_meaning trees) k o this vs) (frame_for other k1 o1 this1 vs1)
     frame_by_kind (BuiltIn r) (BuiltIn r1) e e1 same =
-        routine_enters _ _ (record { routine = (cc); place = refl; values = (same_this, same_values) }) back
+        routine_enters _ _ (record { routine = (cc); place = refl; values = (same_this, same_values); reply = tt }) back
     frame_by_kind (Function c) (Function c1) e e1 same = closure_enters c c1 e e1 (cc)
     frame_by_kind (Function c) k1 e e1 same = absurd (cc)
     frame_by_kind (BuiltIn r) k1 e e1 same = absurd (cc)
@@ -241,7 +241,7 @@ module _ (T : Type 0) (other : Meaning T) (layout : Layout) (trees : Trees) (cou
   act_moved (Enter r vs) (Enter r1 vs1) plain same behind =
       Lives (InRoutine w w1 s.events s1.events s.suspended s1.suspended Entered (entered r vs) (entered r1 vs1) pushed
       other_pushed m w.record_count events known tt (omega arith) agree
-      (record { routine = same.0; place = refl; values = same.1 })
+      (record { routine = same.0; place = refl; values = same.1; reply = tt })
       (waits w w1 (onward_same layout m w w1 agree) behind))
   act_moved (Return v) (Return v1) plain same behind = ends (Normal v) (Normal v1) tt same
   act_moved (Throw v) (Throw v1) plain same behind = ends (Thrown v) (Thrown v1) tt same

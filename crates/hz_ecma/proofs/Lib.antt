@@ -15,6 +15,7 @@ pub mod OnwardLaws
 pub mod LiftLaws
 pub mod PrintLaws
 pub mod StackLaws
+pub mod LineLaws
 pub mod SystemLaws
 pub mod ActLaws
 pub mod RunsAlike

@@ -4,16 +4,23 @@ use Rattle.std.specs.Prelude.{slice_get, ⊤}
 use Rattle.std.specs.List.{join_with_byte}
 use Rattle.hz_value.specs.declared.values.Value.{Value}
 use Rattle.hz_value.specs.operators.Conversions.{to_text}
+use Rattle.hz_value.specs.system.Acts.{Reply}
 use Rattle.hz_value.specs.system.Routines.{RoutineActivation, line_of, text_or_empty}
 use Rattle.hz_value.specs.world.Store.{Store, content_of}
 use Rattle.hz_value.specs.world.World.{World}
 use Rattle.hz_ecma.specs.agreement.Contents.{SameValue, SameValues}
+use Rattle.hz_ecma.specs.agreement.Replies.{SameReply}
 
--- the reply that came to a routine last is not looked at
+abbrev pub SameAnswer : Store → Store → Option Reply → Option Reply → Type 0
+SameAnswer s s1 None None = ⊤
+SameAnswer s s1 (Some c) (Some c1) = SameReply s s1 c c1
+SameAnswer s s1 c c1 = ⊥
+
 pub record SameRoutine (s s1 : Store) (r r1 : RoutineActivation) : Type 0 where
   pub routine : r.routine ≡ r1.routine
   pub place : r.place ≡ r1.place
   pub values : SameValues s s1 r.values r1.values
+  pub reply : SameAnswer s s1 r.reply r1.reply
 
 abbrev pub SameMaybe : Store → Store → Option Value → Option Value → Type 0
 SameMaybe s s1 None None = ⊤

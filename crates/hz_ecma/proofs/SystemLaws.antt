@@ -6,6 +6,7 @@ use Rattle.std.proofs.lemmas.List.{length_push}
 use Rattle.std.proofs.Math.ListN.{get_or-map}
 use Rattle.std.specs.Prelude.{slice_get}
 use Rattle.hz_value.specs.declared.leaving.Left.{Left}
+use Rattle.hz_value.specs.declared.leaving.Left.TheVariants as left
 use Rattle.hz_value.specs.declared.values.Value.{Value}
 use Rattle.hz_value.specs.declared.values.Value.TheVariants as value
 use Rattle.hz_value.specs.operators.Computed.{Computed, Gives, Throws, Leaves}
@@ -16,19 +17,19 @@ use Rattle.hz_value.specs.system.Acts.{Reply, Normal, Thrown, Returned, Return}
 use Rattle.hz_value.specs.system.Acts.{Print, IsCompletion, Next, Goes, Does}
 use Rattle.hz_value.specs.system.Acts.{next_map, computed_to}
 use Rattle.hz_value.specs.system.Routines.{RoutineActivation, routine_step, print_argument, throw_error, at_next}
-use Rattle.hz_value.specs.system.Routines.{line_of, print_step}
+use Rattle.hz_value.specs.system.Routines.{line_of, print_step, line_act, readline_step, routine_answered}
 use Rattle.hz_value.specs.system.Step.{moved, running, behind_end, replied}
-use Rattle.hz_value.specs.system.Step.{left_at, ended}
+use Rattle.hz_value.specs.system.Step.{left_at, ended, line_to, with_event}
 use Rattle.hz_value.specs.system.System.{Meaning, Frame, Source, Routine, Role, Script, Called, Entered, Event, Printed}
 use Rattle.hz_value.specs.system.System.{Ending, Done, Uncaught, LeftFor, Running, System}
-use Rattle.hz_value.specs.system.System.{Resumed, ending_of}
+use Rattle.hz_value.specs.system.System.{Resumed, Asked, ending_of}
 use Rattle.hz_value.specs.world.Errors.{new_error}
 use Rattle.hz_value.specs.world.Objects.{Plain, blank}
-use Rattle.hz_value.specs.world.Start.{print_routine}
-use Rattle.hz_value.specs.world.Store.{object}
-use Rattle.hz_value.specs.world.World.{World, content, marked, raised}
+use Rattle.hz_value.specs.world.Start.{print_routine, readline_routine}
+use Rattle.hz_value.specs.world.Store.{object, value_of}
+use Rattle.hz_value.specs.world.World.{World, Line, Units, TooLong, content, marked, raised}
 use Rattle.hz_ecma.specs.agreement.Agreement.{Matching, Agree}
-use Rattle.hz_ecma.specs.agreement.Contents.{SameValue, ObjectContent, object_content, kind_content}
+use Rattle.hz_ecma.specs.agreement.Contents.{SameValue, SameValues, ObjectContent, object_content, kind_content}
 use Rattle.hz_ecma.specs.agreement.Endings.{SameEnding, EndedAlike}
 use Rattle.hz_ecma.specs.agreement.Layouts.{Layout}
 use Rattle.hz_ecma.specs.agreement.Replies.{SameReply}
@@ -40,8 +41,9 @@ use Rattle.hz_ecma.proofs.EndLaws.{Moved, Lives, Stops}
 use Rattle.hz_ecma.proofs.ErrorLaws.{new_of, same_count}
 use Rattle.hz_ecma.proofs.FunctionLaws.{AreKnown, known_later, none_made_raised}
 use Rattle.hz_ecma.proofs.LiftLaws.{system}
-use Rattle.hz_ecma.proofs.OnwardLaws.{Onward, onward_counts, onward_raised, grown_onward, Owns}
-use Rattle.hz_ecma.proofs.PrintLaws.{SameRoutine, SameMaybe, same_get, same_rest, same_length, same_line}
+use Rattle.hz_ecma.proofs.LineLaws.{agree_reading, line_world, onward_line, line_value, values_kept}
+use Rattle.hz_ecma.proofs.OnwardLaws.{Onward, onward_counts, onward_raised, onward_same, grown_onward, Owns}
+use Rattle.hz_ecma.proofs.PrintLaws.{SameRoutine, SameAnswer, SameMaybe, same_get, same_rest, same_length, same_line}
 use Rattle.hz_ecma.proofs.StackLaws.{IsStanding, Stack, stack_grown, waits_back, waits_owns}
 
 -- ---- what is the same in worlds that agree
@@ -168,6 +170,7 @@ module _ (T : Type 0) (other : Meaning T) (layout : Layout) (trees : Trees) (cou
       routine = same.routine;
       place = ap (λ k. k + 1) same.place;
       values = same.values;
+      reply = tt;
     }
 
     converted : (c : Computed (List ℕ))
@@ -187,10 +190,17 @@ module _ (T : Type 0) (other : Meaning T) (layout : Layout) (trees : Trees) (cou
         tt (same_error layout m w w1 e place place1 agree)
     converted (Leaves reason) = leaves_moved n s s1 w w1 place place1 reason m events agree
 
+    -- it ends with this
+    ended_so : (c c1 : Reply) → IsCompletion c → SameReply w.store w1.store c c1
+        → Comes n (replied (tree_meaning trees) s (behind_end role w) fs c)
+        (replied other s1 (behind_end role w1) fs1 c1)
+    ended_so c c1 is k =
+        end_moved n s s1 events m low role w w1 fs fs1 c c1 standing agree known le stack is k
+
     returned : Stepped (Does (Return value.Undefined) r w) (Does (Return value.Undefined) r1 w1)
     returned =
-        end_moved n s s1 events m low role w w1 fs fs1 (Normal value.Undefined) (Normal value.Undefined) standing agree
-        known le stack tt (record { live = tt; live_other = tt; content = refl })
+        ended_so (Normal value.Undefined) (Normal value.Undefined) tt
+        (record { live = tt; live_other = tt; content = refl })
 
     printed : (b b1 : Bool) → b ≡ b1
         → Stepped (if b then Does (Print (line_of w (drop 1 r.values))) (at_next r) w
@@ -232,12 +242,66 @@ module _ (T : Type 0) (other : Meaning T) (layout : Layout) (trees : Trees) (cou
         (same_get w.store w1.store (drop 1 r.values) (drop 1 r1.values) r.place
         (same_rest w.store w1.store r.values r1.values same.values))
 
+    -- ---- readline
+
+    -- it goes on with what came back
+    answered_so : (w2 w3 : World) (c c1 : Reply) → Onward layout m w w1 w2 w3 → AreKnown count w2.store.objects
+        → SameValues w2.store w3.store r.values r1.values → SameReply w2.store w3.store c c1
+        → Comes n (running (with_event Asked s) w2 (Routine role (routine_answered r c)) fs)
+        (running (with_event Asked s1) w3 (Routine role (routine_answered r1 c1)) fs1)
+    answered_so w2 w3 c c1 onward known_then values reply =
+        Lives (InRoutine w2 w3 (s.events ++ Asked ∷ []) (s1.events ++ Asked ∷ []) s.suspended s1.suspended role
+        (routine_answered r c) (routine_answered r1 c1) fs fs1 m low (ap (λ es. es ++ Asked ∷ []) events) known_then
+        standing (omega (arith, le, onward.later.record_count)) onward.agree
+        (record { routine = same.routine; place = same.place; values = values; reply = reply })
+        (stack_grown T other layout n m m w w1 w2 w3 low fs fs1 stack
+        (grown_onward layout low m w w1 w2 w3 le onward)))
+
+    line_read : (ls : List Line)
+        → Comes n (line_to (tree_meaning trees) (with_event Asked s) place (Routine role r ∷ fs) w ls)
+        (line_to other (with_event Asked s1) place1 (Routine role r1 ∷ fs1) w1 ls)
+    line_read [] =
+        answered_so w w1 (Normal value.Undefined) (Normal value.Undefined) (onward_same layout m w w1 agree) known
+        same.values (record { live = tt; live_other = tt; content = refl })
+    line_read (Units t ∷ ls) =
+        answered_so (line_world t ls w) (line_world t ls w1) (Normal (value_of w.store (content.Text t)))
+        (Normal (value_of w1.store (content.Text t))) (onward_line t ls layout m w w1 agree) known
+        (values_kept t w.store w1.store r.values r1.values same.values) (line_value t w.store w1.store)
+    line_read (TooLong ∷ ls) =
+        leaves_moved n (with_event Asked s) (with_event Asked s1) (record w { lines = ls }) (record w1 { lines = ls })
+        place place1 left.LongLine m (ap (λ es. es ++ Asked ∷ []) events) (agree_reading ls layout m w w1 agree)
+
+    line_done : (c c1 : Option Reply) → SameAnswer w.store w1.store c c1
+        → Stepped (Does (line_act c) r w) (Does (line_act c1) r1 w1)
+    line_done None None k =
+        subst (λ ls. Comes n (line_to (tree_meaning trees) (with_event Asked s) place (Routine role r ∷ fs) w w.lines)
+        (line_to other (with_event Asked s1) place1 (Routine role r1 ∷ fs1) w1 ls)) agree.lines (line_read w.lines)
+    line_done (Some (Normal v)) (Some (Normal v1)) k = ended_so (Normal v) (Normal v1) tt k
+    line_done (Some (Thrown v)) (Some (Thrown v1)) k = ended_so (Thrown v) (Thrown v1) tt k
+    line_done (Some (Returned v)) (Some (Returned v1)) k = ended_so (Normal v) (Normal v1) tt k
+    line_done c c1 k = absurd k
+
+    -- ---- the table
+
+    other_routine : (b b1 : Bool) → b ≡ b1
+        → Stepped (if b then readline_step r w else Does (Return value.Undefined) r w)
+        (if b1 then readline_step r1 w1 else Does (Return value.Undefined) r1 w1)
+    other_routine true true e = line_done r.reply r1.reply same.reply
+    other_routine false false e = returned
+    other_routine true false e = absurd (cc)
+    other_routine false true e = absurd (cc)
+
+    abbrev not_print : ℕ → RoutineActivation → World → Next RoutineActivation
+    not_print k x w2 = if k == readline_routine then readline_step x w2 else Does (Return value.Undefined) x w2
+
     routine : (b b1 : Bool) → b ≡ b1
-        → Stepped (if b then print_step place r w else Does (Return value.Undefined) r w)
-        (if b1 then print_step place1 r1 w1 else Does (Return value.Undefined) r1 w1)
+        → Stepped (if b then print_step place r w else not_print r.routine r w)
+        (if b1 then print_step place1 r1 w1 else not_print r1.routine r1 w1)
     routine true true e =
         argument (slice_get (drop 1 r.values) r.place) (slice_get (drop 1 r1.values) r1.place) at_place
-    routine false false e = returned
+    routine false false e =
+        other_routine (r.routine == readline_routine) (r1.routine == readline_routine)
+        (ap (λ k. k == readline_routine) same.routine)
     routine true false e = absurd (cc)
     routine false true e = absurd (cc)
 

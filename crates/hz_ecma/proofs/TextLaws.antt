@@ -40,7 +40,7 @@ module _ (s : Store) (t : List ℕ) where
   number_more None h = tt
   number_more (Some n) h = omega (arith, h, more)
 
-  live_more : (v : Value) → IsLive s v → IsLive (with_text t s) v
+  pub live_more : (v : Value) → IsLive s v → IsLive (with_text t s) v
   live_more (value.Text n) h = omega (arith, h, more)
   live_more value.Undefined h = tt
   live_more value.Null h = tt

@@ -1,7 +1,9 @@
 pub mod Interning
+pub mod Known
 pub mod Making
 pub mod Stopping
 pub mod Naming
 pub mod Lines
 pub mod Stepping
+pub mod Asking
 pub mod Describing

@@ -21,13 +21,13 @@ use Rattle.hz_machine.specs.Errors.{object_of}
 use Rattle.hz_machine.specs.Frames.{next_of}
 use Rattle.hz_machine.specs.Kept.{KeptWorld, world_of}
 use Rattle.hz_machine.specs.Routines.{next_of_routine}
-use Rattle.hz_machine.specs.Machines.{MachineState, machine_of, system_of, Steps, Acts, script_moved, routine_moved}
+use Rattle.hz_machine.specs.Machines.{RunState, machine_of, system_of, Steps, Acts, script_moved, routine_moved}
 use Rattle.hz_machine.specs.Machines.{called, routine_number}
 
 -- ---- steps
 
 module _ (p : Program) (k : KeptWorld) (a : Activation) where
-  pub script_steps : (k1 : KeptWorld) (a1 : Activation) (act : Act) (answer : Answer) (new : MachineState) →
+  pub script_steps : (k1 : KeptWorld) (a1 : Activation) (act : Act) (answer : Answer) (new : RunState) →
       ((lines : List Line) → next_of act a1 (world_of lines k1) ≡ code_step p a (world_of lines k)) →
       Acts (script_moved k1 a1 act) answer new → Steps p (machine_of k a None status.Running) answer new
   script_steps k1 a1 act answer new h acts = record {
@@ -37,10 +37,11 @@ module _ (p : Program) (k : KeptWorld) (a : Activation) where
         ∙ acts.system p (system_of events lines (machine_of k a None status.Running)) lines;
     tells = acts.tells;
     fine = acts.fine;
+    awake = acts.awake;
   }
 
   pub routine_steps : (r : RoutineActivation) (k1 : KeptWorld) (r1 : RoutineActivation) (act : RoutineAct)
-      (answer : Answer) (new : MachineState) →
+      (answer : Answer) (new : RunState) →
       ((lines : List Line) → next_of_routine act r1 (world_of lines k1) ≡ routine_step 0 r (world_of lines k)) →
       Acts (routine_moved k1 a r1 act) answer new → Steps p (machine_of k a (Some r) status.Running) answer new
   routine_steps r k1 r1 act answer new h acts = record {
@@ -50,6 +51,7 @@ module _ (p : Program) (k : KeptWorld) (a : Activation) where
         ∙ acts.system p (system_of events lines (machine_of k a (Some r) status.Running)) lines;
     tells = acts.tells;
     fine = acts.fine;
+    awake = acts.awake;
   }
 
 -- ---- calls
@@ -86,7 +88,7 @@ frame_is p k lines (value.Object o) this arguments = frame_at p k lines o this a
 frame_is p k lines v this arguments = refl
 
 pub call_acts : (k : KeptWorld) (a : Activation) (callee this : Value) (arguments : Vec Value Global)
-    (answer : Answer) (new : MachineState) → Acts (called k a this arguments.items (routine_number callee)) answer new →
+    (answer : Answer) (new : RunState) → Acts (called k a this arguments.items (routine_number callee)) answer new →
     Acts (script_moved k a (act.Call callee this arguments)) answer new
 call_acts k a callee this arguments answer new acts = record {
   system = λ p s lines.
@@ -94,6 +96,7 @@ call_acts k a callee this arguments answer new acts = record {
       (frame_is p k lines callee this arguments.items) ∙ acts.system p s lines;
   tells = acts.tells;
   fine = acts.fine;
+  awake = acts.awake;
 }
 
 -- ---- answers

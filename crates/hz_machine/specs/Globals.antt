@@ -1,5 +1,5 @@
 -- The machine's globals.
-use Rattle.std.specs.Prelude.{◌≡◌, ℕ, List, [], ◌∷◌, map, Result, Ok, Err, bytes_eq, if◌then◌else◌, ⊤}
+use Rattle.std.specs.Prelude.{◌≡◌, ℕ, List, [], ◌∷◌, map, Result, Ok, Err, bytes_eq, if◌then◌else◌, ⊤, Option, option_map, slice_get}
 use Rattle.std.specs.Borrow.{Bor}
 use Rattle.hz_value.specs.declared.leaving.Left.{Left}
 use Rattle.hz_value.specs.declared.values.Value.{Value}
@@ -17,6 +17,10 @@ resolution (Err reason) = computed.Leaves reason
 
 abbrev pub global_of : Slot → global.Global
 global_of slot = record { value = slot.value; writable = slot.writable }
+
+-- the name of the global at this place
+abbrev pub name_at : global.Globals → ℕ → Option (List ℕ)
+name_at gs place = option_map (λ g. g.0) (slice_get gs place)
 
 -- the global under a name: one that is there keeps its place, a new one goes last
 abbrev pub put_slot : List ℕ → global.Global → global.Globals → global.Globals

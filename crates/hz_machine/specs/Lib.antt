@@ -1,6 +1,7 @@
 pub mod Errors
 pub mod Globals
 pub mod Kept
+pub mod Known
 pub mod Frames
 pub mod Effects
 pub mod Tests

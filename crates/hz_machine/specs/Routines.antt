@@ -1,8 +1,9 @@
 -- Built-in functions as the machine runs them.
-use Rattle.std.specs.Prelude.{◌≡◌, ℕ, List, map, Result, Ok, Err, IfOk}
+use Rattle.std.specs.Prelude.{◌≡◌, ℕ, Bool, ◌==◌, ◌&&◌, is_none, List, map, Result, Ok, Err, IfOk}
 use Rattle.hz_value.specs.declared.values.Value.{Value}
 use Rattle.hz_value.specs.operators.Computed.{Computed, Gives}
 use Rattle.hz_value.specs.operators.Conversions.{to_text}
+use Rattle.hz_value.specs.world.Start.{readline_routine}
 use Rattle.hz_value.specs.world.Store.{Store, content_of}
 use Rattle.hz_value.specs.world.World.{World, Line}
 use Rattle.hz_value.specs.system.Acts as act
@@ -33,3 +34,7 @@ abbrev pub FollowsRoutine : {E : Type 0} → Result RoutineAct E → RoutineActi
     (List Line → act.Next RoutineActivation) → Type 0
 FollowsRoutine result r k step =
     IfOk result (λ a. (lines : List Line) → next_of_routine a r (world_of lines k) ≡ step lines)
+
+-- it is `readline`, and no line came back yet
+abbrev pub wants_line : RoutineActivation → Bool
+wants_line r = r.routine == readline_routine && is_none r.reply

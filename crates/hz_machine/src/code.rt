@@ -1,4 +1,4 @@
-ghost use Rattle.std.specs.Prelude.{◌≡◌, ◌+◌, ◌<◌, ◌^◌, IfOk, IfSome, option_map};
+ghost use Rattle.std.specs.Prelude.{◌≡◌, ◌+◌, ◌<◌, ◌^◌, ◌↔◌, IfOk, IfSome, IsTrue, Some, is_some, option_map};
 ghost use Rattle.hz_ops.specs.code.Activations.{Program};
 
 use hz_ops::Instr;
@@ -34,6 +34,14 @@ pub trait Code {
     fn fetch(&self, f: u32, pc: u64) -> Option<(Instr, u64)>
         ensures value { result ≡ (program self.now).fetch f pc }
         ensures bound { IfSome result (λ r. pc + r.1 < 2 ^ 63) };
+
+    /// Whether there is a text with this number.
+    fn has_string(&self, id: u64) -> bool
+        ensures { result ≡ is_some ((program self.now).text id) };
+
+    /// Whether there is a text with this number, and these are its units.
+    fn is_string(&self, id: u64, units: &[u16]) -> bool
+        ensures { IsTrue result ↔ ((program self.now).text id ≡ Some units.now) };
 
     /// The units of the text with this number, None where there is none.
     fn string(&self, alloc: Global, id: u64) -> Result<Option<Vec<u16>>, Memory>

@@ -1,9 +1,9 @@
 // The global record (ECMA-262, 9.1.1.4).
-ghost use Rattle.std.specs.Prelude.{◌≡◌, [], ◌∷◌, OnOk, OnErr, IfOk, Some, None, codes, bytes_eq, option_map};
+ghost use Rattle.std.specs.Prelude.{◌≡◌, ℕ, List, [], ◌∷◌, OnOk, OnErr, IfOk, IfSome, Some, None, codes, bytes_eq, option_map};
 ghost use Rattle.std.specs.Map.{lookup};
 ghost use Rattle.hz_value.specs.world.Globals.{is_among, missing_names, unbuilt_names, resolve_global, read_absent};
 ghost use Rattle.hz_value.specs.world.Globals.{put_global, write_global, write_absent, declare_global, ordinary};
-ghost use Rattle.hz_machine.specs.Globals.{texts_of, resolution, global_of, put_slot, Permits, Writes};
+ghost use Rattle.hz_machine.specs.Globals.{texts_of, resolution, global_of, name_at, put_slot, Permits, Writes};
 
 use hz_value::{Left, Memory, Value};
 use indexmap::IndexMap;
@@ -227,6 +227,43 @@ impl Globals {
             Some(value) => Ok(Some(value)),
             None => Err(Left::NotSafe),
         }
+    }
+
+    /// The place of the global under the name.
+    pub(crate) fn place(&self, name: &[u16]) -> Option<u64> {
+        let place = self.slots.get_index_of(name)?;
+        Some(place as u64)
+    }
+
+    /// The name of the global at this place, None where there are fewer globals.
+    pub(crate) fn name(&self, place: u64) -> Option<&[u16]>
+        ensures { IfSome result (λ name. name_at self.now place ≡ Some name.now) }
+    {
+        let (name, _) = self.slots.get_index(place as usize)?;
+        Some(name.as_slice())
+    }
+
+    /// The global at this place.
+    pub(crate) fn at(&self, place: u64) -> Option<Slot>
+        ensures { (name : List ℕ) → name_at self.now place ≡ Some name
+            → option_map global_of result ≡ lookup (bytes_eq name) self.now }
+    {
+        let (_, slot) = self.slots.get_index(place as usize)?;
+        Some(*slot)
+    }
+
+    /// The global at this place gets the value.
+    pub(crate) fn set(&mut self, place: u64, value: Value)
+        ensures { (name : List ℕ) → name_at self.old place ≡ Some name → self.new ≡ put_global name value self.old }
+    {
+        let place = place as usize;
+        if place >= self.slots.len() {
+            return;
+        }
+        self.slots[place] = Slot {
+            value: Some(value),
+            writable: true,
+        };
     }
 
     /// Whether the name may be written.

@@ -6,17 +6,19 @@ ghost use Rattle.hz_machine.specs.Kept.{store_of, with_made};
 
 use crate::errors::{Cause, MadeError};
 use crate::globals::Globals;
+use crate::met::Met;
 use crate::texts::Texts;
 use hz_operators::Content;
 use hz_value::{Memory, Value};
 use std::alloc::Global;
 use std::marker::Model;
 
-/// The world as the machine keeps it.
+/// The world as the machine keeps it. Contracts see nothing of what is remembered of the code's texts.
 #[derive(Debug, Drop)]
 pub struct Kept {
     pub(crate) alloc: Global,
     pub(crate) texts: Texts,
+    pub(crate) met: Met,
     pub(crate) globals: Globals,
     pub(crate) errors: Vec<MadeError>,
     pub(crate) turns: u64,

@@ -1,18 +1,20 @@
 // The machine.
-ghost use Rattle.std.specs.Prelude.{◌≡◌, ◌∷◌, List, None, Some, IfOk};
+ghost use Rattle.std.specs.Prelude.{◌≡◌, ◌∷◌, List, None, Some, IfOk, false};
 ghost use Rattle.hz_value.specs.declared.values.Value.{Value as AnyValue};
 ghost use Rattle.hz_ops.specs.code.Activations.{Program};
 ghost use Rattle.hz_machine.specs.declared.machine.Answer.TheVariants as answer;
 ghost use Rattle.hz_machine.specs.declared.machine.Status.TheVariants as mode;
-ghost use Rattle.hz_machine.specs.Machines.{IsNoCall, Acts, Steps, machine_of, script_moved, routine_moved, called, routine_number};
+ghost use Rattle.hz_machine.specs.Machines.{IsNoCall, Acts, Proceeds, Steps, machine_of, script_moved, routine_moved, called, routine_number};
+ghost use Rattle.hz_machine.specs.Routines.{wants_line};
 
 use crate::act::Act;
 use crate::code::Code;
 use crate::descriptions::describe;
 use crate::errors::Cause;
 use crate::frame::{Frame, Reply};
+use crate::input::give_line;
 use crate::kept::Kept;
-use crate::routine::{Routine, RoutineAct, routine_step};
+use crate::routine::{READLINE, Routine, RoutineAct, routine_step};
 use crate::start::{first_frame, first_world};
 use crate::steps::code_step;
 use hz_value::{Left, Memory, Units, Value};
@@ -51,33 +53,34 @@ pub enum Answer {
     Memory,
 }
 
-/// Whether the run goes on.
+/// Whether the run goes on, and what it waits for.
 #[derive(Clone, Copy, Debug, PartialEq, Eq)]
 pub enum Status {
     Running,
+    /// A line of the input was asked for.
+    Waiting,
     Ended(Ending),
+    /// Memory ran out.
     Failed,
 }
 
-/// A run of code. Contracts see it as the state of the system.
+/// A run of code. Contracts see it as the state of the system, with whether it waits for a line, whether it was told
+/// that no line is left, and whether memory ran out.
 #[derive(Debug, Drop)]
 pub struct Machine {
     kept: Kept,
     frame: Frame,
     routine: Option<Routine>,
     status: Status,
+    at_end: bool,
 }
 
 impl Model for Machine {
-    ghost use Rattle.hz_machine.specs.Machines.{MachineState, has_failed, state_of};
+    ghost use Rattle.hz_machine.specs.Machines.{MachineState, machine_of};
 
     ghost Value = { MachineState };
 
-    ghost view = { λ m. record {
-      failed = has_failed m.status;
-      kept = m.kept;
-      state = state_of m.status m.frame m.routine;
-    } };
+    ghost view = { λ m. record { run = machine_of m.kept m.frame m.routine m.status; at_end = m.at_end } };
 }
 
 /// How many calls may be active.
@@ -174,6 +177,7 @@ fn enter(
         routine: number,
         place: 0,
         values,
+        reply: None,
     });
     Answer::Go
 }
@@ -295,6 +299,7 @@ fn called_step(
 ) -> Result<Answer, Memory>
     requires none { routine.old ≡ None }
     requires running { status.old ≡ mode.Running }
+    requires asks { wants_line called ≡ false }
     ensures { (p : Program)
         → IfOk result (λ a. Steps p (machine_of kept.old frame.old (Some called) mode.Running) a
         (machine_of kept.new frame.new routine.new status.new)) }
@@ -302,6 +307,28 @@ fn called_step(
     let mut called = called;
     let act = routine_step(kept, &mut called)?;
     Ok(act_of_routine(kept, frame, routine, status, called, act))
+}
+
+/// A step of the built-in function that the script called, or its wish for a line.
+fn routine_goes(
+    kept: &mut Kept,
+    frame: &mut Frame,
+    routine: &mut Option<Routine>,
+    status: &mut Status,
+    called: Routine,
+) -> Result<Answer, Memory>
+    requires none { routine.old ≡ None }
+    requires running { status.old ≡ mode.Running }
+    ensures { (p : Program)
+        → IfOk result (λ a. Proceeds p (machine_of kept.old frame.old (Some called) mode.Running) a
+        (machine_of kept.new frame.new routine.new status.new)) }
+{
+    if called.wants_line() {
+        *routine = Some(called);
+        *status = Status::Waiting;
+        return Ok(Answer::WantLine);
+    }
+    called_step(kept, frame, routine, status, called)
 }
 
 /// A step of a run that has not ended.
@@ -313,31 +340,35 @@ fn run_step<C: Code>(
     code: &C,
 ) -> Result<Answer, Memory>
     requires running { status.old ≡ mode.Running }
-    ensures { IfOk result (λ a. Steps (C.program code.now)
+    ensures { IfOk result (λ a. Proceeds (C.program code.now)
         (machine_of kept.old frame.old routine.old mode.Running) a
         (machine_of kept.new frame.new routine.new status.new)) }
 {
     match routine.take() {
-        Some(called) => called_step(kept, frame, routine, status, called),
+        Some(called) => routine_goes(kept, frame, routine, status, called),
         None => script_step(kept, frame, routine, status, code),
     }
 }
 
 impl Machine {
-    ghost use Rattle.std.specs.Prelude.{◌≡◌, IfOk};
+    ghost use Rattle.std.specs.Prelude.{◌≡◌, None, true, false, IfOk, OnOk, OnErr, IsOk};
+    ghost use Rattle.hz_value.specs.declared.leaving.Left.TheVariants.{LongLine};
     ghost use Rattle.hz_value.specs.world.Descriptions.{describe};
     ghost use Rattle.hz_machine.specs.Kept.{store_of};
-    ghost use Rattle.hz_machine.specs.Machines.{Answers, Starts};
+    ghost use Rattle.hz_machine.specs.Machines.{Answers, Leaves, Reads, Starts, StartsReading};
 
     /// One step of the run, which is one step of the system over the code. `Go`: the run goes on. `Print`: so it does,
-    /// and this line was printed. `Ended`: the run has ended so; each further step answers the same. `Memory`: memory
-    /// ran out; so each further step answers. `Need` and `WantLine` never come yet.
+    /// and this line was printed. `WantLine`: exactly where the step asks for a line of the input; it is taken by `line`
+    /// or `leave`, and until then each step answers the same. `Ended`: the run has ended so; each further step answers
+    /// the same. `Memory`: memory ran out; so each further step answers. `Need` never comes: no function but the script
+    /// is entered.
     pub fn step<C: Code>(&mut self, code: &C) -> Answer
         ensures { Answers (C.program code.now) self.old result self.new }
     {
         match &self.status {
             Status::Failed => return Answer::Memory,
             Status::Ended(ending) => return Answer::Ended(*ending),
+            Status::Waiting => return Answer::WantLine,
             Status::Running => {}
         }
         match run_step(
@@ -355,6 +386,41 @@ impl Machine {
         }
     }
 
+    /// The next line of the input without its newline, in UTF-16 units, or None where no line is left. This is the step
+    /// of the system that asks for a line. With None it takes no memory and succeeds. After `Memory` each step answers
+    /// `Memory`.
+    pub fn line(&mut self, text: Option<Units>) -> Result<(), Memory>
+        requires waits { (self.old).run.waits ≡ true }
+        requires end { (self.old).at_end ≡ true → text ≡ None }
+        ensures ok { OnOk result (Reads text self.old self.new) }
+        ensures none { text ≡ None → IsOk result }
+        ensures err { OnErr result ((self.new).run.failed ≡ true) }
+    {
+        let at_end = text.is_none();
+        match give_line(&mut self.kept, &mut self.routine, text) {
+            Ok(()) => {
+                self.status = Status::Running;
+                self.at_end = at_end;
+                Ok(())
+            }
+            Err(error) => {
+                self.status = Status::Failed;
+                Err(error)
+            }
+        }
+    }
+
+    /// The run is left for this reason: the next line of the input is too long. This is the step of the system that asks
+    /// for a line. No memory is taken.
+    pub fn leave(&mut self, reason: Left)
+        requires waits { (self.old).run.waits ≡ true }
+        requires end { (self.old).at_end ≡ false }
+        requires reason { reason ≡ LongLine }
+        ensures { Leaves self.old self.new }
+    {
+        self.status = Status::Ended(Ending::Left(reason));
+    }
+
     /// The start of a run of this code, with so many turns. After Memory there is none.
     pub fn start<C: Code>(alloc: Global, code: &C, turns: u64) -> Result<Machine, Memory>
         ensures { IfOk result (λ m. Starts (C.program code.now) turns m) }
@@ -366,12 +432,36 @@ impl Machine {
             frame,
             routine: None,
             status: Status::Running,
+            at_end: false,
+        })
+    }
+
+    /// The start of such a run whose script has called `readline`: no object of the start is that function. The first
+    /// step asks for a line. After Memory there is none.
+    pub fn start_reading<C: Code>(alloc: Global, code: &C, turns: u64) -> Result<Machine, Memory>
+        ensures { IfOk result (λ m. StartsReading (C.program code.now) turns m) }
+    {
+        let mut kept = first_world(alloc, turns)?;
+        let frame = first_frame(alloc, code)?;
+        kept.calls = 1;
+        let reading = Routine {
+            routine: READLINE,
+            place: 0,
+            values: values_of(alloc, Value::Undefined, &[])?,
+            reply: None,
+        };
+        Ok(Machine {
+            kept,
+            frame,
+            routine: Some(reading),
+            status: Status::Running,
+            at_end: false,
         })
     }
 
     /// What is told of a value that nobody caught. No code of the script runs for it.
     pub fn describe(&self, alloc: Global, value: &Value) -> Result<Units, Memory>
-        ensures { IfOk result (λ text. text ≡ describe (store_of (self.now).kept) value.now) }
+        ensures { IfOk result (λ text. text ≡ describe (store_of (self.now).run.kept) value.now) }
     {
         let text = describe(&self.kept, alloc, value)?;
         Ok(Units::from_vec(text))
@@ -379,7 +469,7 @@ impl Machine {
 
     /// The turns that the run has left.
     pub fn turns_left(&self) -> u64
-        ensures { result ≡ (self.now).kept.turns }
+        ensures { result ≡ (self.now).run.kept.turns }
     {
         self.kept.turns
     }

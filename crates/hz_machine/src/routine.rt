@@ -1,14 +1,16 @@
-// Built-in functions: `print`, and Function.prototype, which does nothing.
-ghost use Rattle.std.specs.Prelude.{◌≡◌, ◌+◌, ◌<◌, ◌^◌, ◌==◌, ◌++◌, Some, None, IfOk, IsTrue, drop, length};
+// Built-in functions: `print`, `readline`, and Function.prototype, which does nothing.
+ghost use Rattle.std.specs.Prelude.{◌≡◌, ◌+◌, ◌<◌, ◌^◌, ◌==◌, ◌++◌, Some, None, IfOk, IsTrue, false, is_none, drop, length};
 ghost use Rattle.std.specs.List.{join_with_byte};
 ghost use Rattle.hz_value.specs.operators.Conversions.{to_text};
 ghost use Rattle.hz_value.specs.world.Store.{content_of};
-ghost use Rattle.hz_value.specs.system.Routines.{text_or_empty, print_argument, print_step, routine_step, at_next};
+ghost use Rattle.hz_value.specs.world.World.{World};
+ghost use Rattle.hz_value.specs.system.Routines.{text_or_empty, print_argument, print_step, readline_step, routine_step, at_next};
 ghost use Rattle.hz_operators.specs.Outcomes.{content_of as seen};
 ghost use Rattle.hz_machine.specs.Kept.{store_of, world_of};
-ghost use Rattle.hz_machine.specs.Routines.{texts_of, HasText, FollowsRoutine};
+ghost use Rattle.hz_machine.specs.Routines.{texts_of, HasText, FollowsRoutine, next_of_routine, wants_line};
 
 use crate::errors::Cause;
+use crate::frame::Reply;
 use crate::kept::Kept;
 use hz_operators::{Content, Halt, push_text};
 use hz_value::{Left, Memory, Value};
@@ -18,17 +20,23 @@ use std::marker::Model;
 /// The number of the routine of `print`.
 const PRINT: u64 = 1;
 
-/// The activation of a built-in function: its routine, the place in its steps, and `this` with the arguments.
+/// The number of the routine of `readline`.
+pub(crate) const READLINE: u64 = 2;
+
+/// The activation of a built-in function: its routine, the place in its steps, `this` with the arguments, and what
+/// came back to it last.
 #[derive(Debug, Drop)]
 pub struct Routine {
     pub(crate) routine: u64,
     pub(crate) place: u64,
     pub(crate) values: Vec<Value>,
+    pub(crate) reply: Option<Reply>,
 }
 
 impl Model for Routine {
-    ghost use Rattle.std.specs.Prelude.{None};
+    ghost use Rattle.std.specs.Prelude.{option_map};
     ghost use Rattle.hz_value.specs.system.Routines.{RoutineActivation};
+    ghost use Rattle.hz_machine.specs.Frames.{reply_of};
 
     ghost Value = { RoutineActivation };
 
@@ -36,12 +44,13 @@ impl Model for Routine {
       routine = r.routine;
       place = r.place;
       values = r.values.items;
-      reply = None;
+      reply = option_map reply_of r.reply;
     } };
 }
 
 impl Routine {
     ghost use Rattle.std.specs.Prelude.{◌≡◌, ◌+◌, ◌<◌, ◌^◌, IfSome, drop, slice_get};
+    ghost use Rattle.hz_machine.specs.Routines.{wants_line};
 
     /// Goes on with the next argument.
     fn advance(&mut self)
@@ -49,6 +58,14 @@ impl Routine {
         ensures { self.new ≡ at_next self.old }
     {
         self.place += 1;
+        self.reply = None;
+    }
+
+    /// Whether it asks for a line: it is `readline`, and none came back yet.
+    pub(crate) fn wants_line(&self) -> bool
+        ensures { result ≡ wants_line self.now }
+    {
+        self.routine == READLINE && self.reply.is_none()
     }
 
     /// The number of the routine.
@@ -187,13 +204,27 @@ fn print_step(kept: &mut Kept, routine: &mut Routine) -> Result<RoutineAct, Memo
     }
 }
 
-/// One step of the routine.
+/// One step of `readline` behind its line: it ends with what came back.
+fn readline_step(routine: &Routine) -> RoutineAct
+    requires { is_none (routine.now).reply ≡ false }
+    ensures { (w : World) → next_of_routine result routine.now w ≡ readline_step routine.now w }
+{
+    match routine.reply {
+        Some(Reply::Normal(value)) => RoutineAct::Return(value),
+        Some(Reply::Thrown(value)) => RoutineAct::Throw(value),
+        None => unreachable!(),
+    }
+}
+
+/// One step of a routine that asks for no line.
 pub(crate) fn routine_step(kept: &mut Kept, routine: &mut Routine) -> Result<RoutineAct, Memory>
+    requires { wants_line routine.old ≡ false }
     ensures { FollowsRoutine result routine.new kept.new
         (λ lines. routine_step 0 routine.old (world_of lines kept.old)) }
 {
-    if routine.number() != PRINT {
-        return Ok(RoutineAct::Return(Value::Undefined));
+    match routine.number() {
+        PRINT => print_step(kept, routine),
+        READLINE => Ok(readline_step(routine)),
+        _ => Ok(RoutineAct::Return(Value::Undefined)),
     }
-    print_step(kept, routine)
 }

@@ -11,6 +11,7 @@ use crate::code::Code;
 use crate::frame::Frame;
 use crate::globals::{Globals, Slot};
 use crate::kept::Kept;
+use crate::met::Met;
 use crate::rows::names::units_of;
 use crate::texts::Texts;
 use hz_ops::Held;
@@ -98,6 +99,7 @@ pub(crate) fn first_world(alloc: Global, turns: u64) -> Result<Kept, Memory>
     Ok(Kept {
         alloc,
         texts,
+        met: Met::new(alloc),
         globals,
         errors: Vec::new(alloc),
         turns,

@@ -1,4 +1,4 @@
-ghost use Rattle.std.specs.Prelude.{◌≡◌, [], OnOk, OnErr, IfOk, slice_index_or};
+ghost use Rattle.std.specs.Prelude.{◌≡◌, [], OnOk, OnErr, IfOk, IfSome, slice_index_or};
 ghost use Rattle.hz_value.specs.world.Store.{number_of, interned};
 
 use hz_value::Memory;
@@ -38,6 +38,15 @@ impl Texts {
     {
         let (number, _) = self.texts.insert_full(text)?;
         Ok(number as u64)
+    }
+
+    /// The units of the text with this number, None where no text has it. No other number has the same text.
+    pub fn kept(&self, number: u64) -> Option<&[u16]>
+        ensures number { IfSome result (λ t. number_of self.now t.now ≡ number) }
+        ensures kept { IfSome result (λ t. interned self.now t.now ≡ self.now) }
+    {
+        let text = self.texts.as_slice().get(number as usize)?;
+        Some(text.as_slice())
     }
 
     /// The units of the text with this number; there are none where no text has it.

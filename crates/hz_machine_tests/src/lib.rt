@@ -2,6 +2,14 @@
 #![tactic(auto)]
 
 #[cfg(test)]
+mod bad_code;
+#[cfg(test)]
+mod lines;
+#[cfg(test)]
+mod met;
+#[cfg(test)]
+mod rows;
+#[cfg(test)]
 mod runs;
 mod script;
 

@@ -18,7 +18,7 @@ fn ending(alloc: Global, machine: &Machine, ending: &Ending) -> Result<Vec<u16>,
 }
 
 /// What a run prints, and how it ends.
-fn told(alloc: Global, script: &Script, turns: u64) -> Result<String, Memory> {
+pub(crate) fn told(alloc: Global, script: &Script, turns: u64) -> Result<String, Memory> {
     let mut machine = Machine::start(alloc, script, turns)?;
     let mut lines = Vec::new(alloc);
     for _ in 0..1000 {

@@ -49,6 +49,17 @@ impl Code for Script {
         Some((instr, length as u64))
     }
 
+    fn has_string(&self, id: u64) -> bool {
+        (id as usize) < self.texts.len()
+    }
+
+    fn is_string(&self, id: u64, units: &[u16]) -> bool {
+        match self.texts.get(id as usize) {
+            Some(text) => text.as_slice() == units,
+            None => false,
+        }
+    }
+
     fn string(&self, alloc: Global, id: u64) -> Result<Option<Vec<u16>>, Memory> {
         let Some(text) = self.texts.get(id as usize) else {
             return Ok(None);

@@ -10,7 +10,6 @@ use crate::contents::Content;
 use crate::conversions::{expect_primitive, to_number};
 use crate::halt::Halt;
 use hz_value::{Left, Safe};
-use std::alloc::Global;
 
 /// A comparison by order.
 #[derive(Clone, Copy, Debug, PartialEq, Eq)]
@@ -41,46 +40,41 @@ fn is_before(first: &[u16], second: &[u16]) -> bool
 }
 
 /// Whether the first is less as a number.
-fn less_as_numbers(alloc: Global, x: &Content<'_>, y: &Content<'_>) -> Result<bool, Halt>
+fn less_as_numbers(x: &Content<'_>, y: &Content<'_>) -> Result<bool, Halt>
     ensures { Means (λ b. b) result (less_as_numbers (content_of x.now) (content_of y.now)) }
 {
-    let a = to_number(alloc, x)?;
-    let b = to_number(alloc, y)?;
+    let a = to_number(x)?;
+    let b = to_number(y)?;
     Ok(a.get() < b.get())
 }
 
 /// IsLessThan (7.2.12) of primitives, where x becomes a number first.
-fn is_less(alloc: Global, x: &Content<'_>, y: &Content<'_>) -> Result<bool, Halt>
+fn is_less(x: &Content<'_>, y: &Content<'_>) -> Result<bool, Halt>
     ensures { Means (λ b. b) result (is_less (content_of x.now) (content_of y.now)) }
 {
     match (x, y) {
         (Content::Text(s), Content::Text(t)) => Ok(is_before(s, t)),
-        _ => less_as_numbers(alloc, x, y),
+        _ => less_as_numbers(x, y),
     }
 }
 
 /// `<`, `<=`, `>` and `>=` (13.10): of `>` and `<=` the right operand becomes a number first.
-pub fn compare(alloc: Global, order: Order, u: &Content<'_>, v: &Content<'_>) -> Result<bool, Halt>
+pub fn compare(order: Order, u: &Content<'_>, v: &Content<'_>) -> Result<bool, Halt>
     ensures { Means (λ b. b) result (by_order order (content_of u.now) (content_of v.now)) }
 {
     expect_primitive(u)?;
     expect_primitive(v)?;
-    compare_primitives(alloc, order, u, v)
+    compare_primitives(order, u, v)
 }
 
-fn compare_primitives(
-    alloc: Global,
-    order: Order,
-    u: &Content<'_>,
-    v: &Content<'_>,
-) -> Result<bool, Halt>
+fn compare_primitives(order: Order, u: &Content<'_>, v: &Content<'_>) -> Result<bool, Halt>
     ensures { Means (λ b. b) result (of_primitives order (content_of u.now) (content_of v.now)) }
 {
     match order {
-        Order::Less => is_less(alloc, u, v),
-        Order::LessOrEqual => Ok(!is_less(alloc, v, u)?),
-        Order::Greater => is_less(alloc, v, u),
-        Order::GreaterOrEqual => Ok(!is_less(alloc, u, v)?),
+        Order::Less => is_less(u, v),
+        Order::LessOrEqual => Ok(!is_less(v, u)?),
+        Order::Greater => is_less(v, u),
+        Order::GreaterOrEqual => Ok(!is_less(u, v)?),
     }
 }
 
@@ -116,12 +110,12 @@ fn number_for_boolean<'a>(content: &Content<'a>) -> Content<'a>
 }
 
 /// A number against another value (7.2.13).
-fn equal_to_number(alloc: Global, a: Safe, v: &Content<'_>) -> Result<bool, Halt>
+fn equal_to_number(a: Safe, v: &Content<'_>) -> Result<bool, Halt>
     ensures { Means (λ b. b) result (equal_to_number a (content_of v.now)) }
 {
     match v {
         Content::Number(b) => Ok(a.get() == b.get()),
-        Content::Text(_) => Ok(a.get() == to_number(alloc, v)?.get()),
+        Content::Text(_) => Ok(a.get() == to_number(v)?.get()),
         Content::Object(_) => Err(Halt::Leaves(Left::NotBuilt)),
         _ => Ok(false),
     }
@@ -139,14 +133,14 @@ fn equal_to_object(a: u64, v: &Content<'_>) -> Result<bool, Halt>
 }
 
 /// IsLooselyEqual of values that are no booleans.
-fn equal_by_type(alloc: Global, u: &Content<'_>, v: &Content<'_>) -> Result<bool, Halt>
+fn equal_by_type(u: &Content<'_>, v: &Content<'_>) -> Result<bool, Halt>
     ensures { Means (λ b. b) result (equal_by_type (content_of u.now) (content_of v.now)) }
 {
     match (u, v) {
         (Content::Undefined, Content::Null) => Ok(true),
         (Content::Null, Content::Undefined) => Ok(true),
-        (Content::Number(a), _) => equal_to_number(alloc, *a, v),
-        (_, Content::Number(b)) => equal_to_number(alloc, *b, u),
+        (Content::Number(a), _) => equal_to_number(*a, v),
+        (_, Content::Number(b)) => equal_to_number(*b, u),
         (Content::Object(a), _) => equal_to_object(*a, v),
         (_, Content::Object(b)) => equal_to_object(*b, u),
         _ => Ok(strictly_equal(u, v)),
@@ -154,8 +148,8 @@ fn equal_by_type(alloc: Global, u: &Content<'_>, v: &Content<'_>) -> Result<bool
 }
 
 /// IsLooselyEqual (7.2.13).
-pub fn loosely_equal(alloc: Global, u: &Content<'_>, v: &Content<'_>) -> Result<bool, Halt>
+pub fn loosely_equal(u: &Content<'_>, v: &Content<'_>) -> Result<bool, Halt>
     ensures { Means (λ b. b) result (loosely_equal (content_of u.now) (content_of v.now)) }
 {
-    equal_by_type(alloc, &number_for_boolean(u), &number_for_boolean(v))
+    equal_by_type(&number_for_boolean(u), &number_for_boolean(v))
 }

@@ -9,7 +9,7 @@ ghost use Rattle.hz_operators.specs.Outcomes.{content_of, Means, MeansPushed};
 use crate::bits::small;
 use crate::contents::Content;
 use crate::halt::Halt;
-use hz_value::{Left, Memory, Safe, Units, number_text, text_number};
+use hz_value::{Left, Memory, Safe, number_text, units_number};
 use std::alloc::Global;
 
 /// ToBoolean (7.1.2).
@@ -35,25 +35,15 @@ pub(crate) fn expect_primitive(content: &Content<'_>) -> Result<(), Halt>
     }
 }
 
-/// A copy of the units.
-fn copied(alloc: Global, units: &[u16]) -> Result<Units, Memory>
-    ensures { IfOk result (λ copy. copy ≡ units.now) }
-{
-    let mut copy = Vec::new(alloc);
-    copy.extend_from_slice(units)?;
-    Ok(Units::from_vec(copy))
-}
-
 /// The number of a text (7.1.4.1.1).
-fn number_in(alloc: Global, units: &[u16]) -> Result<Safe, Halt>
+fn number_in(units: &[u16]) -> Result<Safe, Halt>
     ensures { Means (λ z. z) result (safely (text_value units.now)) }
 {
-    let text = copied(alloc, units)?;
-    text_number(&text).ok_or(Halt::Leaves(Left::NotSafe))
+    units_number(units).ok_or(Halt::Leaves(Left::NotSafe))
 }
 
-/// ToNumber (7.1.4). The run is left where the number is no safe integer, and at an object.
-pub fn to_number(alloc: Global, content: &Content<'_>) -> Result<Safe, Halt>
+/// ToNumber (7.1.4). The run is left where the number is no safe integer, and at an object. It takes no memory.
+pub fn to_number(content: &Content<'_>) -> Result<Safe, Halt>
     ensures { Means (λ z. z) result (to_number (content_of content.now)) }
 {
     match content {
@@ -61,7 +51,7 @@ pub fn to_number(alloc: Global, content: &Content<'_>) -> Result<Safe, Halt>
         Content::Null => Ok(small(0)),
         Content::Boolean(value) => Ok(small(*value as i64)),
         Content::Number(number) => Ok(*number),
-        Content::Text(units) => number_in(alloc, units),
+        Content::Text(units) => number_in(units),
         Content::Symbol(_) => Err(Halt::Symbol),
         Content::Object(_) => Err(Halt::Leaves(Left::NotBuilt)),
     }

@@ -10,7 +10,6 @@ use crate::contents::Content;
 use crate::conversions::to_number;
 use crate::halt::Halt;
 use hz_value::{Left, Safe};
-use std::alloc::Global;
 
 /// An operator on two numbers.
 #[derive(Clone, Copy, Debug, PartialEq, Eq)]
@@ -78,23 +77,18 @@ fn result_of_one(operator: UnaryOperator, x: Safe) -> Option<Safe>
 }
 
 /// The operator on two values, which become numbers from left to right.
-pub fn on_numbers(
-    alloc: Global,
-    operator: NumberOperator,
-    u: &Content<'_>,
-    v: &Content<'_>,
-) -> Result<Safe, Halt>
+pub fn on_numbers(operator: NumberOperator, u: &Content<'_>, v: &Content<'_>) -> Result<Safe, Halt>
     ensures { Means Number result (on_numbers (numeric operator) (content_of u.now) (content_of v.now)) }
 {
-    let x = to_number(alloc, u)?;
-    let y = to_number(alloc, v)?;
+    let x = to_number(u)?;
+    let y = to_number(v)?;
     result_of(operator, x, y).ok_or(Halt::Leaves(Left::NotSafe))
 }
 
 /// The operator on one value, which becomes a number.
-pub fn on_number(alloc: Global, operator: UnaryOperator, u: &Content<'_>) -> Result<Safe, Halt>
+pub fn on_number(operator: UnaryOperator, u: &Content<'_>) -> Result<Safe, Halt>
     ensures { Means Number result (on_number operator (content_of u.now)) }
 {
-    let x = to_number(alloc, u)?;
+    let x = to_number(u)?;
     result_of_one(operator, x).ok_or(Halt::Leaves(Left::NotSafe))
 }

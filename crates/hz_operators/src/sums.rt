@@ -35,11 +35,11 @@ fn join(
 }
 
 /// The sum of two values as numbers.
-fn sum(alloc: Global, u: &Content<'_>, v: &Content<'_>) -> Result<Option<Safe>, Halt>
+fn sum(u: &Content<'_>, v: &Content<'_>) -> Result<Option<Safe>, Halt>
     ensures { Means (λ number. sum_content number []) result
         (on_numbers sum_of (content_of u.now) (content_of v.now)) }
 {
-    let sum = on_numbers(alloc, NumberOperator::Sum, u, v)?;
+    let sum = on_numbers(NumberOperator::Sum, u, v)?;
     Ok(Some(sum))
 }
 
@@ -56,7 +56,7 @@ fn add_primitives(
     if is_text(u) || is_text(v) {
         return join(alloc, u, v, text);
     }
-    sum(alloc, u, v)
+    sum(u, v)
 }
 
 /// `u + v`: where one of them is a text the texts are joined in `text`, else it is the sum of the numbers.

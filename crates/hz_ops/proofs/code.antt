@@ -1,3 +1,4 @@
 pub mod Running
+pub mod Turns
 mod RowExamples
 mod BadCodeExamples

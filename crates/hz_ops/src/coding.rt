@@ -44,6 +44,7 @@ pub fn decode(bytes: &[u8], at: usize) -> Option<(Instr, usize)>
     instruction_at(bytes, at)
 }
 
+#[inline(always)]
 fn instruction_at(bytes: &[u8], at: usize) -> Option<(Instr, usize)>
     ensures { result ≡ decode_at bytes.now at }
 {
@@ -54,6 +55,7 @@ fn instruction_at(bytes: &[u8], at: usize) -> Option<(Instr, usize)>
 }
 
 /// The instruction in front, and its length.
+#[inline(always)]
 fn front(bytes: &[u8]) -> Option<(Instr, usize)>
     ensures { result ≡ front bytes.now }
 {
@@ -77,6 +79,7 @@ fn first_byte(long: bool, op: Op) -> u8
 }
 
 /// The operands of this operation in front, and the bytes behind them.
+#[inline(always)]
 fn operands_at(op: Op, long: bool, bytes: &[u8]) -> Option<(ArrayVec<Operand, 5>, &[u8])>
     ensures value { option_map (λ r. (r.0.items, r.1.now)) result
         ≡ operands_at long (kinds_of op) bytes.now }

@@ -4,6 +4,9 @@ ghost use Rattle.hz_ops.specs.declared.instr.Instr.{Instr};
 ghost use Rattle.hz_ops.specs.Coding.{decode_at, spelling, fits_of};
 ghost use Rattle.hz_ops.specs.Activations.{Module};
 ghost use Rattle.hz_ops.specs.Runs.{End, System, system_step, after, Ends, IsBuilt};
+ghost use Rattle.hz_ops.specs.code.Activations.{Program};
+ghost use Rattle.hz_ops.specs.code.Steps.{code_meaning};
+ghost use Rattle.hz_value.specs.system.Runs.{TakesTurns};
 
 /// An instruction that fits is read where it stands, whatever stands in front of it and behind it.
 pub fn read_in_place()
@@ -36,4 +39,10 @@ pub fn step_by_step()
 pub fn ended_is_built()
     ensures { (m : Module) (s : System) (lines : List (List ℕ)) (end : End) → Ends m s lines end
         → IsBuilt m s }
+{}
+
+/// No step of code leaves more turns than there were, whatever the program is.
+#[tactic(auto, using(crate::proofs::code::Turns::takes_turns))]
+pub fn code_takes_turns()
+    ensures { (p : Program) → TakesTurns (code_meaning p) }
 {}

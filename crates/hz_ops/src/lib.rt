@@ -25,5 +25,7 @@ pub mod tested;
 pub use coding::{decode, encode_into, fits};
 pub use held::Held;
 pub use instr::{Instr, push_instr};
-pub use laws::{ended_is_built, lines_grow, one_end, read_in_place, step_by_step};
+pub use laws::{
+    code_takes_turns, ended_is_built, lines_grow, one_end, read_in_place, step_by_step,
+};
 pub use op::{Op, Operand, OperandKind};

@@ -12,6 +12,7 @@ pub enum Size {
 }
 
 /// The number of this size in front, and the bytes behind it; `None` where there are fewer bytes.
+#[inline(always)]
 pub(crate) fn number_at(size: Size, bytes: &[u8]) -> Option<(u64, &[u8])>
     ensures value { option_map (λ r. (r.0, r.1.now)) result ≡ number_at size bytes.now }
     ensures fits { IfSome result (λ r. r.0 < 2 ^ (8 * byte_count size)) }

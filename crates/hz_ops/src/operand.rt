@@ -8,6 +8,7 @@ use crate::number::{Size, number_at, put_number};
 use crate::op::{Operand, OperandKind};
 
 /// How many bytes an operand of this kind takes, in the long form or the short one.
+#[inline(always)]
 pub(crate) fn size_of(long: bool, kind: OperandKind) -> Size
     ensures { result ≡ size_of long kind }
 {
@@ -56,6 +57,7 @@ pub(crate) fn operand_fits(size: Size, kind: OperandKind, operand: Operand) -> b
 }
 
 /// The signed number whose two's complement in so many bytes is this one.
+#[inline(always)]
 fn signed(size: Size, number: u64) -> i64
     requires { number < 2 ^ (8 * byte_count size) }
     ensures { result ≡ cast_signed (width size) number }
@@ -80,6 +82,7 @@ fn unsigned(size: Size, number: i64) -> u64
 }
 
 /// The operand of this kind that the number in so many bytes stands for.
+#[inline(always)]
 fn operand_of(kind: OperandKind, size: Size, number: u64) -> Operand
     requires fits { number < 2 ^ (8 * byte_count size) }
     requires count { kind ≡ OperandKind.Count → number < 256 }
@@ -114,6 +117,7 @@ fn number_of(size: Size, kind: OperandKind, operand: Operand) -> u64
 }
 
 /// The operand of this kind in front, and the bytes behind it; `None` where there are too few bytes.
+#[inline(always)]
 pub(crate) fn operand_at(kind: OperandKind, long: bool, bytes: &[u8]) -> Option<(Operand, &[u8])>
     ensures value { option_map (λ r. (r.0, r.1.now)) result ≡ operand_at long kind bytes.now }
 {

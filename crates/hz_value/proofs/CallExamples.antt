@@ -1,14 +1,14 @@
 -- Examples of the system, accepted by computing: scripts that are lists of acts.
-use Rattle.std.proofs.Common.{◌≡◌, ◌≤◌, arith, ℕ, pos, true, List, [], ◌∷◌, length, codes, refl}
+use Rattle.std.proofs.Common.{◌≡◌, ◌≤◌, arith, ℕ, pos, true, List, [], ◌∷◌, ◌++◌, length, codes, refl}
 use Rattle.std.specs.Char.{encode_utf8}
 use Rattle.std.specs.Char.Utf16.{utf16_chars}
 use Rattle.std.specs.Fmt.{digits}
-use Rattle.hz_value.specs.declared.leaving.Left.TheVariants.{TooDeep}
+use Rattle.hz_value.specs.declared.leaving.Left.TheVariants.{TooDeep, LongLine}
 use Rattle.hz_value.specs.declared.values.Value.TheVariants as value
-use Rattle.hz_value.specs.world.World.{World, Units}
-use Rattle.hz_value.specs.world.Start.{world0}
-use Rattle.hz_value.specs.system.Acts.{Act, Call, Return, Next, Does}
-use Rattle.hz_value.specs.system.System.{Meaning, System, Printed, Done, LeftFor, TurnsSpent, Ended}
+use Rattle.hz_value.specs.world.World.{World, Line, Units, TooLong}
+use Rattle.hz_value.specs.world.Start.{world0, texts0, readline_routine}
+use Rattle.hz_value.specs.system.Acts.{Act, Call, Enter, Return, Next, Does}
+use Rattle.hz_value.specs.system.System.{Meaning, System, Printed, Asked, Done, LeftFor, TurnsSpent, Ended}
 use Rattle.hz_value.specs.system.Lines.{lines, printed}
 use Rattle.hz_value.specs.system.Runs.{start, after, world_behind, TakesTurns}
 use Rattle.hz_value.specs.world.Descriptions.{describe}
@@ -71,6 +71,25 @@ lines_read = refl
 line_printed : printed (Printed (55296 ∷ 65 ∷ []) ∷ []) ≡ 239 ∷ 191 ∷ 189 ∷ 65 ∷ 10 ∷ []
 unfolding utf16_chars encode_utf8
 line_printed = refl
+
+-- `readline` is entered twice, with these lines to be read
+abbrev reads_twice : List Line → System (List Act)
+reads_twice ls = begun (Enter readline_routine [] ∷ Enter readline_routine [] ∷ []) (world0 ls 0)
+
+-- a line is asked for each time, and the text that comes is kept; behind the last line nothing is
+lines_asked : (after listed 7 (reads_twice (Units (codes "ab") ∷ []))).events ≡ Asked ∷ Asked ∷ []
+lines_asked = refl
+
+line_kept : (after listed 2 (reads_twice (Units (codes "ab") ∷ []))).world.store.texts
+    ≡ texts0 ++ codes "ab" ∷ []
+line_kept = refl
+
+lines_used : (after listed 7 (reads_twice (Units (codes "ab") ∷ []))).state ≡ Ended Done
+lines_used = refl
+
+-- a line that is too long is asked for, too
+too_long : (after listed 2 (reads_twice (TooLong ∷ []))).state ≡ Ended (LeftFor LongLine)
+too_long = refl
 
 -- it raises no turns
 fewer_turns : (acts : List Act) (w : World) → (world_behind (next_act acts w)).turns ≤ w.turns

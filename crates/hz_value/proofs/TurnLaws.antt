@@ -8,13 +8,13 @@ use Rattle.hz_value.specs.operators.Messages.{NotFunction}
 use Rattle.hz_value.specs.operators.Computed.{Computed, Gives, Throws, Leaves}
 use Rattle.hz_value.specs.operators.Conversions.{to_text}
 use Rattle.hz_value.specs.world.Errors.{new_error}
-use Rattle.hz_value.specs.world.Start.{print_routine}
+use Rattle.hz_value.specs.world.Start.{print_routine, readline_routine}
 use Rattle.hz_value.specs.world.World.{World, Line, Units, TooLong, raised, content}
 use Rattle.hz_value.specs.system.Acts.{Reply, Normal, Thrown, Act, Call, Enter, Return, Throw, Start, Yield, Resume}
 use Rattle.hz_value.specs.system.Acts.{Print, WantLine, Turn, Spent, Leave, Bad, Next, Goes, Does, next_map}
 use Rattle.hz_value.specs.system.Acts.{computed_to}
 use Rattle.hz_value.specs.system.Routines.{RoutineActivation, routine_step, print_step, print_argument, throw_error}
-use Rattle.hz_value.specs.system.Routines.{at_next, line_of}
+use Rattle.hz_value.specs.system.Routines.{at_next, line_of, readline_step}
 use Rattle.hz_value.specs.system.System.{Meaning, System, State, Running, Ended, Frame, Source, Routine, Role, Script}
 use Rattle.hz_value.specs.system.System.{Called, Entered, Resumed, Asked, frame_step, role_of, statement_in_hand}
 use Rattle.hz_value.specs.system.Step.{system_step, stepped, moved, acted, replied, running, turn_to, depth_to}
@@ -45,8 +45,11 @@ print_turns place r w None =
 routine_turns : (place : ℕ) (r : RoutineActivation) (w : World) →
     (world_behind (routine_step place r w)).turns ≤ w.turns
 routine_turns place r w =
-    chosen_step w.turns (r.routine == print_routine) (print_step place r w) (Does (Return value.Undefined) r w)
-    (print_turns place r w (slice_get (drop 1 r.values) r.place)) (omega arith)
+    chosen_step w.turns (r.routine == print_routine) (print_step place r w)
+    (if r.routine == readline_routine then readline_step r w else Does (Return value.Undefined) r w)
+    (print_turns place r w (slice_get (drop 1 r.values) r.place))
+    (chosen_step w.turns (r.routine == readline_routine) (readline_step r w) (Does (Return value.Undefined) r w)
+    (omega arith) (omega arith))
 
 mapped_turns : {A B : Type 0} (see : A → B) (n : ℕ) (x : Next A) → (world_behind x).turns ≤ n →
     (world_behind (next_map see x)).turns ≤ n

@@ -23,6 +23,6 @@ pub use integers::{
 };
 pub use laws::{ended_stays, events_grow, one_outcome, turns_fall};
 pub use leaving::Left;
-pub use number_texts::{number_text, text_number};
+pub use number_texts::{number_text, text_number, units_number};
 pub use powers::pow;
 pub use values::{Key, Property, Value};

@@ -44,7 +44,14 @@ pub fn number_text(alloc: Global, a: Safe) -> Result<Units, Memory>
 pub fn text_number(t: &Units) -> Option<Safe>
     ensures { result ≡ text_value t.now }
 {
-    match trim_end(trim_start(t.as_slice())) {
+    units_number(t.as_slice())
+}
+
+/// The number that the text of these units means, as `text_number` gives it. It takes no memory.
+pub fn units_number(units: &[u16]) -> Option<Safe>
+    ensures { result ≡ text_value units.now }
+{
+    match trim_end(trim_start(units)) {
         [] => positive(Some(0)),
         [PLUS, digits @ ..] => positive(natural(10, digits)),
         [MINUS, digits @ ..] => negative(natural(10, digits)),

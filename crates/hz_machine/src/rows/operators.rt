@@ -40,12 +40,7 @@ fn numbers_into(
         (on_numbers (numeric operator) (content_of (store_of kept.old) (o.now).left)
         (content_of (store_of kept.old) (o.now).right))) }
 {
-    let found = on_numbers(
-        kept.alloc,
-        operator,
-        &kept.content(o.left),
-        &kept.content(o.right),
-    );
+    let found = on_numbers(operator, &kept.content(o.left), &kept.content(o.right));
     give_number(kept, frame, next, o.to, found)
 }
 
@@ -114,12 +109,7 @@ fn order_into(
         (compared (by_order order) (content_of (store_of kept.old) (o.now).left)
         (content_of (store_of kept.old) (o.now).right))) }
 {
-    let found = hz_operators::compare(
-        kept.alloc,
-        order,
-        &kept.content(o.left),
-        &kept.content(o.right),
-    );
+    let found = hz_operators::compare(order, &kept.content(o.left), &kept.content(o.right));
     give_boolean(kept, frame, next, o.to, found)
 }
 
@@ -151,11 +141,7 @@ fn equality_into(
         (compared loosely_equal (content_of (store_of kept.old) (o.now).left)
         (content_of (store_of kept.old) (o.now).right))) }
 {
-    let found = hz_operators::loosely_equal(
-        kept.alloc,
-        &kept.content(o.left),
-        &kept.content(o.right),
-    );
+    let found = hz_operators::loosely_equal(&kept.content(o.left), &kept.content(o.right));
     give_boolean(kept, frame, next, o.to, found)
 }
 
@@ -205,7 +191,7 @@ fn number_into(
     ensures { Follows result frame.new kept.new (λ lines. gives next frame.old (world_of lines kept.old) (o.now).to
         (on_number operator (content_of (store_of kept.old) (o.now).value))) }
 {
-    let found = on_number(kept.alloc, operator, &kept.content(o.value));
+    let found = on_number(operator, &kept.content(o.value));
     give_number(kept, frame, next, o.to, found)
 }
 

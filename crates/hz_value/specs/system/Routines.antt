@@ -8,9 +8,10 @@ use Rattle.hz_value.specs.operators.Messages.{Message}
 use Rattle.hz_value.specs.operators.Computed.{Computed, Gives, Throws, Leaves}
 use Rattle.hz_value.specs.operators.Conversions.{to_text}
 use Rattle.hz_value.specs.world.Errors.{new_error}
-use Rattle.hz_value.specs.world.Start.{print_routine}
+use Rattle.hz_value.specs.world.Start.{print_routine, readline_routine}
 use Rattle.hz_value.specs.world.World.{World, content, raised}
-use Rattle.hz_value.specs.system.Acts.{Reply, Next, Goes, Does, Return, Throw, Print, computed_to}
+use Rattle.hz_value.specs.system.Acts.{Reply, Normal, Thrown, Returned, Act, Return, Throw, Print, WantLine}
+use Rattle.hz_value.specs.system.Acts.{Next, Goes, Does, computed_to}
 
 -- the routine by its number, the place in its steps, the values that it works on, and what came back to it last.
 -- A built-in function begins with `this` and its arguments
@@ -56,7 +57,23 @@ print_argument place r w None =
 abbrev pub print_step : ℕ → RoutineActivation → World → Next RoutineActivation
 print_step place r w = print_argument place r w (slice_get (drop 1 r.values) r.place)
 
+-- ---- readline
+
+-- it asks for the next line, and ends with what comes back
+abbrev pub line_act : Option Reply → Act
+line_act None = WantLine
+line_act (Some (Normal v)) = Return v
+line_act (Some (Thrown v)) = Throw v
+line_act (Some (Returned v)) = Return v
+
+abbrev pub readline_step : RoutineActivation → World → Next RoutineActivation
+readline_step r w = Does (line_act r.reply) r w
+
+-- ---- the table
+
 -- one step of a routine, where this is the place in the source of the statement in hand
 abbrev pub routine_step : ℕ → RoutineActivation → World → Next RoutineActivation
 routine_step place r w =
-    if r.routine == print_routine then print_step place r w else Does (Return value.Undefined) r w
+    if r.routine == print_routine then print_step place r w
+    else if r.routine == readline_routine then readline_step r w
+    else Does (Return value.Undefined) r w

@@ -19,6 +19,10 @@ function_prototype_routine = 0
 abbrev pub print_routine : ℕ
 print_routine = 1
 
+-- no object of the start is `readline`
+abbrev pub readline_routine : ℕ
+readline_routine = 2
+
 -- the texts that are there from the start; the first three are `length_name`, `name_name` and `message_name`
 abbrev pub texts0 : List (List ℕ)
 texts0 =

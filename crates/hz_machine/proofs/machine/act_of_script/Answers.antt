@@ -1,11 +1,11 @@
 use Rattle.std.proofs.Common.{sym, subst}
-use Rattle.hz_machine.specs.Machines.{MachineState, Acts, machine_of, script_moved, called, routine_number}
+use Rattle.hz_machine.specs.Machines.{RunState, Acts, machine_of, script_moved, called, routine_number}
 use Rattle.hz_machine.proofs.Stepping.{call_acts, on_ok}
 use Rattle.hz_machine.proofs.machine.act_of_script.Goals as goal
 
 pub returns-in-Call : goal.returns-in-Call
 returns-in-Call c =
-    let new : MachineState = machine_of c.call.new.kept c.call.new.frame c.call.new.routine c.call.new.status in
+    let new : RunState = machine_of c.call.new.kept c.call.new.frame c.call.new.routine c.call.new.status in
     on_ok {P = λ a. Acts (called c.args.kept.now c.args.frame.now c.in-Call.this c.as_slice.result.now
     (routine_number c.in-Call.callee)) a new}
     {Q = λ a. Acts (script_moved c.args.kept.now c.args.frame.now c.args.act.now) a new} c.call.result

@@ -1,12 +1,12 @@
 use Rattle.std.proofs.Common.{None}
 use Rattle.hz_machine.specs.declared.machine.Status.TheVariants as mode
-use Rattle.hz_machine.specs.Machines.{MachineState, Acts, Steps, machine_of, script_moved}
+use Rattle.hz_machine.specs.Machines.{RunState, Acts, Steps, machine_of, script_moved}
 use Rattle.hz_machine.proofs.Stepping.{script_steps, on_ok}
 use Rattle.hz_machine.proofs.machine.script_step.Goals as goal
 
 pub returns : goal.returns
 returns g c =
-    let new : MachineState =
+    let new : RunState =
     machine_of c.act_of_script.new.kept c.act_of_script.new.frame c.act_of_script.new.routine
     c.act_of_script.new.status in
     on_ok {P = λ a. Acts (script_moved c.code_step.new.kept c.code_step.new.frame c.in_ok-act.act) a new}
