@@ -1,0 +1,12 @@
+pub mod Blurs
+pub mod EndRows
+pub mod Readings
+pub mod Fronts
+pub mod Lists
+pub mod Terminals
+pub mod Walks
+pub mod Walking
+pub mod Begun
+pub mod Places
+pub mod Comments
+pub mod Functions

@@ -1,0 +1,3 @@
+pub mod LeadsLaws
+pub mod MakesLaws
+pub mod Outside

@@ -1,0 +1,10 @@
+pub mod TreeNodes
+pub mod Made
+pub mod Several
+pub mod Opening
+pub mod FunctionRows
+pub mod RowNodes
+pub mod Readings
+pub mod Trees
+pub mod Plain
+pub mod PlainReadings
