@@ -8,3 +8,5 @@ pub mod Readings
 pub mod Trees
 pub mod Plain
 pub mod PlainReadings
+pub mod Ahead
+pub mod SettledRows
