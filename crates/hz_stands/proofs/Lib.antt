@@ -10,3 +10,4 @@ pub mod Plain
 pub mod PlainReadings
 pub mod Ahead
 pub mod SettledRows
+pub mod MovedRows
