@@ -161,7 +161,7 @@ read_off m ts mid v p is none =
       | false ↦ λ e. refl
     ] refl
 
-none_behind : (right : List Symbol) (ts rest : List Terminal) (p : Parts Value right) (behind : Bool)
+pub none_behind : (right : List Symbol) (ts rest : List Terminal) (p : Parts Value right) (behind : Bool)
     → keeps_off behind right ≡ true → (behind ≡ true → in_ahead rest ≡ false) → read_all reads right ts ≡ Got p rest
     → in_ahead ts ≡ false
 none_behind [] ts rest p behind off none is =

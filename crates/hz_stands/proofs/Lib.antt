@@ -11,3 +11,5 @@ pub mod PlainReadings
 pub mod Ahead
 pub mod SettledRows
 pub mod MovedRows
+pub mod Settled
+pub mod MovedReadings

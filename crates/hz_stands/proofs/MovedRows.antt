@@ -241,7 +241,7 @@ arrow_value c = moves (n.ArrowBody (in_a_head c)) (λ p. refl)
 
 -- ---- all rows
 
-abbrev MovesAt : Nonterminal → Look → Type 0
+abbrev pub MovesAt : Nonterminal → Look → Type 0
 MovesAt m l = (passes_in m && is_in l.one) ≡ false → MovesRow m (row m l) (row (anywhere m) l)
 
 moves_at : (m : Nonterminal) (one : Class) (newline : Bool) (two : Class) (newline' arrow : Bool) → is_of_head m ≡ true
