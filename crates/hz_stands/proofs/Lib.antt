@@ -13,3 +13,4 @@ pub mod SettledRows
 pub mod MovedRows
 pub mod Settled
 pub mod MovedReadings
+pub mod Ends
