@@ -14,3 +14,4 @@ pub mod MovedRows
 pub mod Settled
 pub mod MovedReadings
 pub mod Ends
+pub mod PlainShapes
