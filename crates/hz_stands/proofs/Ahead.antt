@@ -12,6 +12,7 @@ use Rattle.hz_tree.specs.declared.nonterminal.Nonterminal.TheVariants as n
 use Rattle.hz_tree.specs.declared.operator.Level.{Level}
 use Rattle.hz_tree.specs.declared.operator.Level.TheVariants as level
 use Rattle.hz_tree.specs.declared.signal.NodeShape.TheVariants as shape
+use Rattle.hz_tree.specs.declared.signal.Signal.{Signal}
 use Rattle.hz_tree.specs.declared.signal.Signal.TheVariants as tell
 use Rattle.hz_tree.specs.declared.symbol.Symbol.{Symbol}
 use Rattle.hz_tree.specs.declared.symbol.Symbol.TheVariants as s
@@ -100,6 +101,23 @@ expr_rest_passes : (listed : Bool) (c : Context) (ts rest : List Terminal) (v : 
 expr_rest_passes true c ts rest v is = got_rest [] v ts rest is
 expr_rest_passes false c ts rest v is = got_rest [] v ts rest is
 
+rests_pass : (loosest tightest : Level) (c : Context) (ts rest : List Terminal)
+    (v : Value (n.Rests loosest tightest (placed_context true c))) → in_ahead ts ≡ true
+    → reads (n.Rests loosest tightest (placed_context true c)) ts ≡ Got v rest → ts ≡ rest
+rests_pass loosest tightest c ts rest v h is =
+    got_rest [] v ts rest (sym (rests_nothing loosest tightest c ts h) ∙ is)
+
+told_last : (signal : Signal) (m : Nonterminal) (ts rest : List Terminal)
+    (p : Parts Value (s.Tell signal ∷ s.Read m ∷ []))
+    → read_all reads (s.Tell signal ∷ s.Read m ∷ []) ts ≡ Got p rest → reads m ts ≡ Got p.1.0 rest
+told_last signal m ts rest p is =
+    let one : Cons reads (s.Tell signal) (s.Read m ∷ []) ts p rest =
+    cons_got reads (s.Tell signal) (s.Read m ∷ []) ts p rest is in
+    let two : Cons reads (s.Read m) [] one.mid p.1 rest = cons_got reads (s.Read m) [] one.mid p.1 rest one.others in
+    ap (reads m) (got_rest (told_ahead ts) p.0 ts one.mid one.first)
+    ∙ two.first
+    ∙ ap (Got p.1.0) (got_rest tt p.1.1 two.mid rest two.others)
+
 tails_pass : (tailed : Bool) (loosest : Level) (c : Context) (ts rest : List Terminal)
     (v : Value (n.Tails tailed loosest (placed_context true c))) → in_ahead ts ≡ true
     → by_row reads (n.Tails tailed loosest (placed_context true c))
@@ -107,17 +125,13 @@ tails_pass : (tailed : Bool) (loosest : Level) (c : Context) (ts rest : List Ter
     → ts ≡ rest
 tails_pass true loosest c ts rest v h is =
     let inner = n.Rests loosest level.Update (placed_context true c) in
-    let all : Then (read_all reads (s.Tell (tell.Node shape.Same) ∷ s.Read inner ∷ []) ts) _ v rest =
-    then_got (read_all reads (s.Tell (tell.Node shape.Same) ∷ s.Read inner ∷ []) ts) _ v rest is in
-    let one : Cons reads (s.Tell (tell.Node shape.Same)) (s.Read inner ∷ []) ts all.first all.mid =
-    cons_got reads (s.Tell (tell.Node shape.Same)) (s.Read inner ∷ []) ts all.first all.mid all.got in
-    let two : Cons reads (s.Read inner) [] one.mid all.first.1 all.mid =
-    cons_got reads (s.Read inner) [] one.mid all.first.1 all.mid one.others in
-    let here : ts ≡ one.mid = got_rest (told_ahead ts) all.first.0 ts one.mid one.first in
-    let there : ts ≡ two.mid =
-    got_rest [] all.first.1.0 ts two.mid (sym (rests_nothing loosest level.Update c ts h) ∙ ap (reads inner) here
-    ∙ two.first) in
-    there ∙ got_rest tt all.first.1.1 two.mid all.mid two.others ∙ got_rest _ v all.mid rest all.goes_on
+    let all : Then (read_all reads (s.Tell (tell.Node shape.Same) ∷ s.Read inner ∷ []) ts)
+    (λ vs end. Got (no_tails vs.1.0) end) v rest =
+    then_got (read_all reads (s.Tell (tell.Node shape.Same) ∷ s.Read inner ∷ []) ts)
+    (λ vs end. Got (no_tails vs.1.0) end) v rest is in
+    rests_pass loosest level.Update c ts all.mid all.first.1.0 h
+    (told_last (tell.Node shape.Same) inner ts all.mid all.first all.got)
+    ∙ got_rest (no_tails all.first.1.0) v all.mid rest all.goes_on
 tails_pass false loosest c ts rest v h is = got_rest (no_tails []) v ts rest is
 
 tails_in_head : (head tailed : Bool) (loosest : Level) (c : Context) (ts rest : List Terminal)

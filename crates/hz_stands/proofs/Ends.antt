@@ -1,5 +1,5 @@
 -- Where a function ends that is read by its row: no `in` stands there, where the row is of a head.
-use Rattle.std.proofs.Common.{◌≡◌, Bool, true, false, not, ◌&&◌, ◌||◌, List, ◌∷◌, ◌++◌, refl}
+use Rattle.std.proofs.Common.{◌≡◌, Bool, true, false, not, ◌&&◌, ◌||◌, List, ◌∷◌, refl}
 use Rattle.hz_tree.specs.declared.nonterminal.Nonterminal.{Nonterminal}
 use Rattle.hz_tree.specs.declared.signal.Signal.TheVariants as tell
 use Rattle.hz_tree.specs.declared.symbol.Symbol.{Symbol}
@@ -8,7 +8,7 @@ use Rattle.hz_tree.specs.grammar.Look.{Terminal}
 use Rattle.hz_tree.specs.grammar.Symbols.{Parts, Value, Row}
 use Rattle.hz_tree.specs.reading.Reading.{Got, read_all, reads}
 use Rattle.hz_stands.specs.Heads.{in_head, in_ahead, shape_settled}
-use Rattle.hz_stands.specs.Stands.{Shape, declared, arrowed}
+use Rattle.hz_stands.specs.Stands.{Shape, arrowed}
 use Rattle.hz_stands.proofs.Ahead.{keeps_off, none_behind}
 use Rattle.hz_stands.proofs.Opening.{to_close, from_open, side, behind_open, Opening, stands_here}
 use Rattle.hz_stands.proofs.Settled.{NoneBehind}

@@ -1,5 +1,5 @@
 -- What is read in a head is read so outside of heads, where no `in` stands behind it.
-use Rattle.std.proofs.Common.{◌≡◌, ℕ, zero, suc, Bool, true, false, not, ◌&&◌, ◌||◌, List, [], ◌∷◌, refl, ap, sym}
+use Rattle.std.proofs.Common.{◌≡◌, ℕ, zero, suc, Bool, true, false, ◌&&◌, List, [], ◌∷◌, refl, ap, sym}
 use Rattle.std.proofs.Common.{◌∙◌, subst}
 use Rattle.hz_tree.specs.declared.nonterminal.Nonterminal.{Nonterminal}
 use Rattle.hz_tree.specs.declared.nonterminal.Nonterminal.TheVariants as n
@@ -7,18 +7,20 @@ use Rattle.hz_tree.specs.declared.symbol.Symbol.{Symbol}
 use Rattle.hz_tree.specs.declared.symbol.Symbol.TheVariants as s
 use Rattle.hz_tree.specs.grammar.Classes.{is_in}
 use Rattle.hz_tree.specs.grammar.Look.{Terminal, look}
-use Rattle.hz_tree.specs.grammar.Symbols.{Part, Parts, Value, Row, goes, refuses}
+use Rattle.hz_tree.specs.grammar.Symbols.{Parts, Value, Row, goes, refuses}
 use Rattle.hz_tree.specs.grammar.Table.{row}
-use Rattle.hz_tree.specs.reading.Reading.{Reading, Got, and_then, Reader, read_one, read_all, by_row, reads_to}
+use Rattle.hz_tree.specs.reading.Reading.{Got, and_then, Reader, read_one, read_all, by_row, reads_to}
 use Rattle.hz_tree.specs.reading.Reading.{reads_by, enough, reads}
 use Rattle.hz_laws.proofs.Balance.{Then, then_got, got_rest}
 use Rattle.hz_laws.proofs.ReadingLaws.{reads_law}
-use Rattle.hz_stands.specs.Heads.{in_head, is_of_head, in_ahead, settled, placed, anywhere, anywhere_value}
+use Rattle.hz_stands.specs.Heads.{in_head, in_ahead, settled, placed, anywhere, anywhere_value}
 use Rattle.hz_stands.proofs.Ahead.{passes_in, passes}
-use Rattle.hz_stands.proofs.MovedRows.{moved_symbol, moved, moved_part, moved_parts, Moves, MovesRow, MovesAt, rows_move}
+use Rattle.hz_stands.proofs.MovedRows.{moved_symbol, moved, moved_part, moved_parts, Moves, MovesRow, MovesAt}
+use Rattle.hz_stands.proofs.MovedRows.{rows_move}
 use Rattle.hz_stands.proofs.Settled.{NoneBehind, behind_settled, settled_in_head, settled_guards, first_settled}
 use Rattle.hz_stands.proofs.Settled.{others_guarded}
-use Rattle.hz_stands.proofs.SettledRows.{guards, Settles, as_placed, rows_settle}
+use Rattle.hz_stands.proofs.SettledExpressions.{guards, Settles}
+use Rattle.hz_stands.proofs.SettledRows.{as_placed, rows_settle}
 use Rattle.hz_stands.proofs.Several.{value_of, Cons, cons_got, cons_makes, all_same, to_reads}
 
 -- ---- outside of heads

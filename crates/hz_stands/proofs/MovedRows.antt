@@ -184,7 +184,8 @@ plain_expression : (c : Context)
 plain_expression c = moves (n.Primary (in_a_head c)) (λ p. refl)
 
 expression_moves : (c : Context) (two : Class)
-    → MovesRow (n.Primary (in_a_head c)) (function_expression_row (in_a_head c) two) (function_expression_row (away c) two)
+    → MovesRow (n.Primary (in_a_head c)) (function_expression_row (in_a_head c) two)
+    (function_expression_row (away c) two)
 expression_moves c k.Star = moves (n.Primary (in_a_head c)) (λ p. refl)
 expression_moves c _ = plain_expression c
 

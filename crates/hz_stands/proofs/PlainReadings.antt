@@ -234,9 +234,9 @@ plainly f ts stands =
     }
 
 -- Each function in what is read stands among the terminals.
-pub functions_stand_there : (m : Nonterminal) (ts rest : List Terminal) (v : Value m) → reads m ts ≡ Got v rest
+pub all_stand : (m : Nonterminal) (ts rest : List Terminal) (v : Value m) → reads m ts ≡ Got v rest
     → All (λ f. Standing f ts) (value_nodes m v)
-functions_stand_there m ts rest v is =
+all_stand m ts rest v is =
     λ i d below. (functions_stand false m ts rest v (λ k. absurd (false_true k)) is i d below).standing
 
 -- Where the reading is settled, it is read in a plain way.

@@ -5,7 +5,6 @@ use Rattle.hz_tree.specs.declared.class.Class.TheVariants as k
 use Rattle.hz_tree.specs.declared.nonterminal.Context.{Context}
 use Rattle.hz_tree.specs.declared.nonterminal.Nonterminal.TheVariants as n
 use Rattle.hz_tree.specs.declared.signal.Role.TheVariants as role
-use Rattle.hz_tree.specs.declared.symbol.Symbol.{Symbol}
 use Rattle.hz_tree.specs.declared.symbol.Symbol.TheVariants as s
 use Rattle.hz_tree.specs.grammar.Classes.{is_function, is_name, is_paren}
 use Rattle.hz_tree.specs.grammar.Look.{Terminal, look}

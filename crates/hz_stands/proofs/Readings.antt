@@ -9,7 +9,7 @@ use Rattle.hz_tree.specs.declared.symbol.Symbol.TheVariants as s
 use Rattle.hz_tree.specs.grammar.Look.{Terminal, look}
 use Rattle.hz_tree.specs.grammar.Symbols.{Part, Parts, Value, Row, goes, refuses}
 use Rattle.hz_tree.specs.grammar.Table.{row}
-use Rattle.hz_tree.specs.reading.Reading.{Reading, Got, Reader, read_one, read_all, by_row, reads_to}
+use Rattle.hz_tree.specs.reading.Reading.{Got, Reader, read_one, read_all, by_row, reads_to}
 use Rattle.hz_tree.specs.reading.Reading.{reads_by, enough, reads}
 use Rattle.hz_laws.proofs.Balance.{Then, then_got, got_rest}
 use Rattle.hz_cuts.specs.Skips.{Skip, front_parts, skip_of}
@@ -18,7 +18,8 @@ use Rattle.hz_stands.specs.Nodes.{FunctionNode, value_nodes, part_nodes}
 use Rattle.hz_stands.specs.Stands.{Standing}
 use Rattle.hz_stands.proofs.Ends.{Ends, ends_settled}
 use Rattle.hz_stands.proofs.Settled.{NoneBehind, behind_settled, settled_guards, first_settled, others_guarded}
-use Rattle.hz_stands.proofs.SettledRows.{guards, Settles, rows_settle}
+use Rattle.hz_stands.proofs.SettledExpressions.{guards, Settles}
+use Rattle.hz_stands.proofs.SettledRows.{rows_settle}
 use Rattle.hz_stands.proofs.Several.{value_of, back_parts, Cons, cons_got, Suffix, same_suffix, suffix_then}
 use Rattle.hz_stands.proofs.Several.{one_suffix, one_same, all_same, to_reads}
 use Rattle.hz_stands.proofs.Opening.{to_close, from_open, side, behind_open, own_parts, Opening, function_of}

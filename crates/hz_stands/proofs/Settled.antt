@@ -4,12 +4,12 @@ use Rattle.hz_tree.specs.declared.nonterminal.Nonterminal.{Nonterminal}
 use Rattle.hz_tree.specs.declared.symbol.Symbol.{Symbol}
 use Rattle.hz_tree.specs.declared.symbol.Symbol.TheVariants as s
 use Rattle.hz_tree.specs.grammar.Look.{Terminal}
-use Rattle.hz_tree.specs.grammar.Symbols.{Parts, Value, Row, goes}
+use Rattle.hz_tree.specs.grammar.Symbols.{Parts, Value, goes}
 use Rattle.hz_tree.specs.reading.Reading.{Got, read_all, reads}
 use Rattle.hz_laws.proofs.Ranks.{and_left, and_right}
 use Rattle.hz_stands.specs.Heads.{in_head, is_of_head, in_ahead, settled}
 use Rattle.hz_stands.proofs.Ahead.{keeps_off, none_behind}
-use Rattle.hz_stands.proofs.SettledRows.{guards, Settles}
+use Rattle.hz_stands.proofs.SettledExpressions.{guards, Settles}
 
 -- ---- truth values
 

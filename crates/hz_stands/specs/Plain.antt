@@ -2,7 +2,6 @@
 -- generators and of heads. How a function is read then, its kind and its first token tell.
 use Rattle.std.specs.Prelude.{◌≡◌, Bool, true, false, not, ◌&&◌, List}
 use Rattle.hz_tree.specs.declared.class.Class.{Class}
-use Rattle.hz_tree.specs.declared.nonterminal.Context.{Context}
 use Rattle.hz_tree.specs.declared.tree.FunctionKind.{FunctionKind}
 use Rattle.hz_tree.specs.declared.tree.FunctionKind.TheVariants as kind
 use Rattle.hz_tree.specs.grammar.Classes.{is_function, is_paren}

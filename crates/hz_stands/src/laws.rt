@@ -14,8 +14,8 @@ ghost use Rattle.hz_stands.specs.Nodes.{script_extent, script_tree, value_nodes}
 ghost use Rattle.hz_stands.specs.Plain.{StandingPlain, is_plain, shape_by};
 ghost use Rattle.hz_stands.specs.Stands.{Shape, Standing, written};
 
-/// Law: what is read in the head of a `for`, where `in` is no operator, is read outside of heads, with the same value and
-/// up to the same token, unless `in` stands there.
+/// Law: what is read in the head of a `for`, where `in` is no operator, is read outside of heads, with the same value
+/// and up to the same token, unless `in` stands there.
 #[tactic(auto, using(crate::proofs::MovedReadings::read_anywhere))]
 pub fn heads_are_read_anywhere()
     ensures { (m : Nonterminal) (ts rest : List Terminal) (v : Value m) → settled m rest ≡ true →
@@ -25,8 +25,7 @@ pub fn heads_are_read_anywhere()
 /// Law: each function in what is read stands among the terminals: at the place where it starts, its parameters and its
 /// body are read, up to the place where it ends. Where the reading is settled, as that of a script is, a declaration is
 /// read there as an expression is, a getter or a setter as a method, and an arrow outside of generators and of heads.
-#[tactic(auto, using(crate::proofs::PlainReadings::functions_stand_there,
-    crate::proofs::PlainReadings::functions_stand_plainly))]
+#[tactic(auto, using(crate::proofs::PlainReadings::all_stand, crate::proofs::PlainReadings::functions_stand_plainly))]
 pub fn functions_stand()
     ensures standing { (m : Nonterminal) (ts rest : List Terminal) (v : Value m) → reads m ts ≡ Got v rest →
         All (λ f. Standing f ts) (value_nodes m v) }

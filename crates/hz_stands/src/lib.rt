@@ -10,5 +10,6 @@
 mod laws;
 
 pub use laws::{
-    functions_stand, heads_are_read_anywhere, index_tells_of_them, plain_shapes_are_told, trees_are_theirs,
+    functions_stand, heads_are_read_anywhere, index_tells_of_them, plain_shapes_are_told,
+    trees_are_theirs,
 };
