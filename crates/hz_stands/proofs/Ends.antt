@@ -7,11 +7,11 @@ use Rattle.hz_tree.specs.declared.symbol.Symbol.TheVariants as s
 use Rattle.hz_tree.specs.grammar.Look.{Terminal}
 use Rattle.hz_tree.specs.grammar.Symbols.{Parts, Value, Row}
 use Rattle.hz_tree.specs.reading.Reading.{Got, read_all, reads}
-use Rattle.hz_stands.specs.Heads.{in_head, in_ahead, shape_settled}
+use Rattle.hz_stands.specs.Heads.{in_head, in_ahead}
 use Rattle.hz_stands.specs.Stands.{Shape, arrowed}
 use Rattle.hz_stands.proofs.Ahead.{keeps_off, none_behind}
 use Rattle.hz_stands.proofs.Opening.{to_close, from_open, side, behind_open, Opening, stands_here}
-use Rattle.hz_stands.proofs.Settled.{NoneBehind}
+use Rattle.hz_stands.proofs.Settled.{NoneBehind, shape_settled}
 use Rattle.hz_stands.proofs.Several.{back_parts, Cons, cons_got, Split, split_read}
 
 -- The body of an arrow is of a head where its row is, and nothing is taken behind it.

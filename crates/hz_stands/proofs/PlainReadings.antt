@@ -16,13 +16,14 @@ use Rattle.hz_tree.specs.reading.Reading.{Got, read_all, by_row, reads}
 use Rattle.hz_laws.proofs.Balance.{got_rest}
 use Rattle.hz_laws.proofs.Ranks.{false_true}
 use Rattle.hz_laws.proofs.ReadingLaws.{reads_law}
-use Rattle.hz_stands.specs.Heads.{placed_context, settled, shape_settled}
+use Rattle.hz_stands.specs.Heads.{placed_context, settled}
 use Rattle.hz_stands.specs.Nodes.{FunctionNode, value_nodes}
 use Rattle.hz_stands.specs.Plain.{is_plain, StandingPlain}
 use Rattle.hz_stands.specs.Stands.{Shape, declared, expressed, arrowed, method, getter, setter, written, Standing}
 use Rattle.hz_stands.proofs.Plain.{own_name_read, no_parameters, params_read, one_parameter, end_read}
 use Rattle.hz_stands.proofs.MovedReadings.{read_anywhere}
 use Rattle.hz_stands.proofs.Readings.{Stands, functions_stand}
+use Rattle.hz_stands.proofs.Settled.{shape_settled}
 use Rattle.hz_stands.proofs.Several.{Cons, cons_got, cons_makes}
 
 record PlainReading (shape : Shape) (from left : List Terminal) (parts : Parts Value (written shape).symbols)

@@ -13,11 +13,12 @@ use Rattle.hz_tree.specs.reading.Reading.{Got, Reader, read_one, read_all, by_ro
 use Rattle.hz_tree.specs.reading.Reading.{reads_by, enough, reads}
 use Rattle.hz_laws.proofs.Balance.{Then, then_got, got_rest}
 use Rattle.hz_cuts.specs.Skips.{Skip, front_parts, skip_of}
-use Rattle.hz_stands.specs.Heads.{in_head, settled, shape_settled}
+use Rattle.hz_stands.specs.Heads.{in_head, settled}
 use Rattle.hz_stands.specs.Nodes.{FunctionNode, value_nodes, part_nodes}
 use Rattle.hz_stands.specs.Stands.{Standing}
 use Rattle.hz_stands.proofs.Ends.{Ends, ends_settled}
 use Rattle.hz_stands.proofs.Settled.{NoneBehind, behind_settled, settled_guards, first_settled, others_guarded}
+use Rattle.hz_stands.proofs.Settled.{shape_settled}
 use Rattle.hz_stands.proofs.SettledExpressions.{guards, Settles}
 use Rattle.hz_stands.proofs.SettledRows.{rows_settle}
 use Rattle.hz_stands.proofs.Several.{value_of, back_parts, Cons, cons_got, Suffix, same_suffix, suffix_then}

@@ -1,6 +1,7 @@
 -- Parts of what is read, where the reading is settled.
 use Rattle.std.proofs.Common.{◌≡◌, Bool, true, false, not, ◌&&◌, ◌||◌, List, ◌∷◌, refl}
 use Rattle.hz_tree.specs.declared.nonterminal.Nonterminal.{Nonterminal}
+use Rattle.hz_tree.specs.declared.nonterminal.Nonterminal.TheVariants as n
 use Rattle.hz_tree.specs.declared.symbol.Symbol.{Symbol}
 use Rattle.hz_tree.specs.declared.symbol.Symbol.TheVariants as s
 use Rattle.hz_tree.specs.grammar.Look.{Terminal}
@@ -8,6 +9,7 @@ use Rattle.hz_tree.specs.grammar.Symbols.{Parts, Value, goes}
 use Rattle.hz_tree.specs.reading.Reading.{Got, read_all, reads}
 use Rattle.hz_laws.proofs.Ranks.{and_left, and_right}
 use Rattle.hz_stands.specs.Heads.{in_head, is_of_head, in_ahead, settled}
+use Rattle.hz_stands.specs.Stands.{Shape, arrowed}
 use Rattle.hz_stands.proofs.Ahead.{keeps_off, none_behind}
 use Rattle.hz_stands.proofs.SettledExpressions.{guards, Settles}
 
@@ -40,6 +42,11 @@ none_not true h = cc
 none_not false h = refl
 
 -- ---- readings
+
+-- so of a function that ends before `rest`: the body of an arrow can be an expression of a head
+abbrev pub shape_settled : Shape → (rest : List Terminal) → Bool
+shape_settled (arrowed c parenthesised) rest = settled (n.ArrowBody c) rest
+shape_settled _ rest = true
 
 -- no `in` stands behind a part of a head
 abbrev pub NoneBehind : (behind : Bool) → List Terminal → Type 0

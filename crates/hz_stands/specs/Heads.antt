@@ -7,7 +7,6 @@ use Rattle.hz_tree.specs.declared.nonterminal.Nonterminal.TheVariants as n
 use Rattle.hz_tree.specs.grammar.Classes.{is_in}
 use Rattle.hz_tree.specs.grammar.Look.{Terminal}
 use Rattle.hz_tree.specs.grammar.Symbols.{Value}
-use Rattle.hz_stands.specs.Stands.{Shape, arrowed}
 
 -- ---- where `in` is no operator
 
@@ -86,11 +85,6 @@ in_ahead (x ∷ ts) = is_in x.class
 -- `in` is an operator in what is read; or it is of a head, and no `in` stands ahead of what is left.
 abbrev pub settled : Nonterminal → (rest : List Terminal) → Bool
 settled m rest = not (in_head m) || (is_of_head m && not (in_ahead rest))
-
--- so of a function that ends before `rest`: the body of an arrow can be an expression of a head
-abbrev pub shape_settled : Shape → (rest : List Terminal) → Bool
-shape_settled (arrowed c parenthesised) rest = settled (n.ArrowBody c) rest
-shape_settled _ rest = true
 
 -- ---- in a head and outside of heads
 
