@@ -26,8 +26,9 @@ use Rattle.hz_middle.specs.Place.{beginning, left}
 use Rattle.hz_laws.proofs.Balance.{Then, then_got}
 use Rattle.hz_laws.proofs.ReadingLaws.{reads_law}
 use Rattle.hz_stands.proofs.PlainReadings.{functions_stand_plainly}
+use Rattle.hz_stands.proofs.PlainShapes.{shapes_told}
 use Rattle.hz_stands.specs.Nodes.{FunctionNode, nodes_of}
-use Rattle.hz_stands.specs.Plain.{StandingPlain}
+use Rattle.hz_stands.specs.Plain.{StandingPlain, shape_by}
 use Rattle.hz_stands.specs.Stands.{Shape, declared, expressed, arrowed, method, getter, setter, with_body, written}
 use Rattle.hz_stands.specs.Stands.{Standing}
 use Rattle.hz_alone.specs.Functions.{ReadAlone}
@@ -235,12 +236,17 @@ read_alone source f h =
     (no_comment source t.before t.after one.first.token t.split starting) fit.opening fit.silent fit.walking
     (sym (ap (read_all reads (written s.shape).symbols) one.is) ∙ s.read) in
     let at : f.at ≡ one.first.token.at = s.start ∙ ap place_ahead one.is in
+    let read : read_all reads (written s.shape).symbols (left (beginning source f.at)) ≡ Got r.others r.left =
+    ap (λ place. read_all reads (written s.shape).symbols (left (beginning source place))) at ∙ r.read in
     (record {
       shape = s.shape;
       parts = r.others;
       rest = r.left;
       plain = h.plain;
-      read = ap (λ place. read_all reads (written s.shape).symbols (left (beginning source place))) at ∙ r.read;
+      told =
+          shapes_told s.shape (left (beginning source f.at)) r.left r.others h.plain read
+          ∙ ap (λ kind. shape_by kind (look (left (beginning source f.at))).one) (sym s.kind);
+      read = read;
       end = s.end ∙ sym r.end;
       kind = s.kind;
       given = s.given ∙ fit.same s.parts r.others r.same;
@@ -257,4 +263,4 @@ alone_each source (f ∷ fs) h =
 pub all_alone : (source : Text) (script : Tree) (rest : List Terminal)
     → reads n.Script (terminals source) ≡ Got script rest → All (ReadAlone source) (nodes_of script)
 all_alone source script rest h =
-    alone_each source (nodes_of script) (functions_stand_plainly n.Script (terminals source) rest script h)
+    alone_each source (nodes_of script) (functions_stand_plainly n.Script (terminals source) rest script refl h)

@@ -47,7 +47,8 @@ pub fn reading_begins_anywhere()
 {}
 
 /// Law: where a source is read as a script, each function in its tree is read by a reader that begins where it starts,
-/// and knows of nothing that stands before: its parameters and its body, up to where it ends.
+/// and knows of nothing that stands before: its parameters and its body, up to where it ends. The function's kind and
+/// the first token tell which symbols it reads.
 #[tactic(auto, using(crate::proofs::Functions::all_alone))]
 pub fn functions_are_read_alone()
     ensures { (source : Text) (script : Tree) (rest : List Terminal) →

@@ -32,6 +32,7 @@ use Rattle.hz_stands.specs.Stands.{Shape, Given, declared, expressed, arrowed, m
 use Rattle.hz_stands.proofs.TreeNodes.{nodes_out}
 use Rattle.hz_stands.proofs.Made.{row_laws, made_laws}
 use Rattle.hz_stands.proofs.Several.{untold_parts, untold_read}
+use Rattle.hz_stands.proofs.Ends.{Ends}
 use Rattle.hz_stands.proofs.Opening.{Sides, side, from_open, opened, own_parts, closed, function_by, Opening}
 
 -- the symbols of a function that begins with `head`, and one symbol behind it
@@ -163,3 +164,38 @@ pub method_nodes : (c : Context) (l : Look) → Opening (n.KeyRest c) (key_rest_
 method_nodes c l =
     opening (n.KeyRest c) plain_method_sides (method false) (λ p. form.Method) (untold_parts plain_method_sides.own)
     (untold_read plain_method_sides.own) (λ p. simp row_laws)
+
+-- ---- where these functions end
+
+pub declaration_ends : (c : Context) (two : Class) → Ends (n.Item c) (declaration_row c two) (declaration_nodes c two)
+unfolding opening plain_declaration declaration_nodes
+declaration_ends c k.Star = tt
+declaration_ends c _ = tt
+
+pub expression_ends : (c : Context) (two : Class)
+    → Ends (n.Primary c) (function_expression_row c two) (expression_nodes c two)
+unfolding opening plain_expression expression_nodes
+expression_ends c k.Star = tt
+expression_ends c _ = tt
+
+pub arrow_ends : (loosest : Level) (c : Context) (parenthesised : Bool)
+    → Ends (n.Operation loosest c) (arrow_row loosest c parenthesised) (arrow_nodes loosest c parenthesised)
+unfolding opening arrow_nodes
+arrow_ends loosest c true = (refl, refl)
+arrow_ends loosest c false = (refl, refl)
+
+pub getter_ends : (c : Context) (l : Look) → Ends (n.Prop c) (getter_row c l true) (getter_nodes c l)
+unfolding opening getter_nodes
+getter_ends c l = tt
+
+pub setter_ends : (c : Context) (l : Look) → Ends (n.Prop c) (setter_row c l true) (setter_nodes c l)
+unfolding opening setter_nodes
+setter_ends c l = tt
+
+pub generator_ends : (c : Context) (l : Look) → Ends (n.Prop c) (prop_by c l k.Star) (generator_nodes c l)
+unfolding opening generator_nodes
+generator_ends c l = tt
+
+pub method_ends : (c : Context) (l : Look) → Ends (n.KeyRest c) (key_rest_by c l k.LeftParen) (method_nodes c l)
+unfolding opening method_nodes
+method_ends c l = tt

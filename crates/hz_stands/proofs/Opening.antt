@@ -78,7 +78,7 @@ function_of o p =
     function_by (opened o.sides p) (closed o.sides p) (o.form p) o.shape
     ((written o.shape).given (o.given (own_parts o.sides p)))
 
-pub stands_here : (m : Nonterminal) (r : Row m) (o : Opening m r) (ts rest : List Terminal)
+unfoldable pub stands_here : (m : Nonterminal) (r : Row m) (o : Opening m r) (ts rest : List Terminal)
     (p : Parts Value (side o.sides)) → read_all reads (side o.sides) ts ≡ Got p rest
     → Standing (function_of o p) ts
 stands_here m r o ts rest p h =

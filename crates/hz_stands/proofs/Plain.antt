@@ -18,10 +18,10 @@ use Rattle.hz_tree.specs.grammar.FunctionRows.{parameters_row, more_parameters_r
 use Rattle.hz_tree.specs.grammar.Look.{Terminal, look, stuck}
 use Rattle.hz_tree.specs.grammar.StatementRows.{bound_by}
 use Rattle.hz_tree.specs.grammar.Symbols.{Row, goes, refuses}
-use Rattle.hz_tree.specs.reading.Reading.{Got, Stuck, and_then, takes, by_row, reads}
-use Rattle.hz_laws.proofs.Balance.{got_rest}
+use Rattle.hz_tree.specs.reading.Reading.{Got, Stuck, and_then, takes, read_all, by_row, reads}
+use Rattle.hz_laws.proofs.Balance.{Then, then_got, got_rest}
 use Rattle.hz_laws.proofs.ReadingLaws.{reads_law}
-use Rattle.hz_stands.proofs.Several.{cons_makes}
+use Rattle.hz_stands.proofs.Several.{Cons, cons_got, cons_makes}
 
 -- ---- names
 
@@ -43,7 +43,7 @@ bound_named bound l k.LeftBracket ts rest b h = cc
 bound_named bound l k.LeftBrace ts rest b h = cc
 bound_named bound l _ ts rest b h = if_named bound l (is_name l.one) ts rest b h
 
-begins_named : (bound : Role) (ts rest : List Terminal) (b : Bound) → reads (n.Bound bound) ts ≡ Got b rest
+pub begins_named : (bound : Role) (ts rest : List Terminal) (b : Bound) → reads (n.Bound bound) ts ≡ Got b rest
     → is_name (look ts).one ≡ true
 begins_named bound ts rest b h =
     bound_named bound (look ts) (look ts).one ts rest b (sym (reads_law (n.Bound bound) ts) ∙ h)
@@ -87,17 +87,41 @@ look_one : (x : Terminal) (ts : List Terminal) → (look (x ∷ ts)).one ≡ x.c
 look_one x [] = refl
 look_one x (y ∷ ts) = refl
 
-closes : (ts rest : List Terminal) (x : Terminal) → takes k.RightParen ts ≡ Got x rest → (look ts).one ≡ k.RightParen
-unfolding same_class
-closes [] rest x h = cc
-closes (y ∷ ts) rest x h =
-    elim (fits k.RightParen y.class)
-    as (λ b. fits k.RightParen y.class ≡ b
+took_class : (wanted : Class) (ts rest : List Terminal) (x : Terminal)
+    → ((c : Class) → fits wanted c ≡ true → wanted ≡ c) → takes wanted ts ≡ Got x rest
+    → (look ts).one ≡ wanted
+took_class wanted [] rest x same h = cc
+took_class wanted (y ∷ ts) rest x same h =
+    elim (fits wanted y.class) as (λ b. fits wanted y.class ≡ b
     → (if b then Got y ts else Stuck (stuck (look (y ∷ ts))) (y ∷ ts)) ≡ Got x rest
-    → (look (y ∷ ts)).one ≡ k.RightParen) [
-      | true ↦ λ e got. look_one y ts ∙ sym (same_true class_type tt k.RightParen y.class e)
+    → (look (y ∷ ts)).one ≡ wanted) [
+      | true ↦ λ e got. look_one y ts ∙ sym (same y.class e)
       | false ↦ λ e got. cc
     ] refl h
+
+closes : (ts rest : List Terminal) (x : Terminal) → takes k.RightParen ts ≡ Got x rest → (look ts).one ≡ k.RightParen
+unfolding same_class
+closes ts rest x h = took_class k.RightParen ts rest x (λ c e. same_true class_type tt k.RightParen c e) h
+
+opens : (ts rest : List Terminal) (x : Terminal) → takes k.LeftParen ts ≡ Got x rest → (look ts).one ≡ k.LeftParen
+unfolding same_class
+opens ts rest x h = took_class k.LeftParen ts rest x (λ c e. same_true class_type tt k.LeftParen c e) h
+
+pub function_first : (ts rest : List Terminal) (x : Terminal) → takes k.Function ts ≡ Got x rest
+    → (look ts).one ≡ k.Function
+unfolding same_class
+function_first ts rest x h = took_class k.Function ts rest x (λ c e. same_true class_type tt k.Function c e) h
+
+pub paren_first : (ts rest : List Terminal) (v : List Bound × Option Rest) → reads n.Params ts ≡ Got v rest
+    → (look ts).one ≡ k.LeftParen
+paren_first ts rest v h =
+    let others = s.Read n.Parameters ∷ s.Take k.RightParen ∷ [] in
+    let all : Then (read_all reads (s.Take k.LeftParen ∷ others) ts) (λ vs end. Got vs.1.0 end) v rest =
+    then_got (read_all reads (s.Take k.LeftParen ∷ others) ts) (λ vs end. Got vs.1.0 end) v rest
+    (sym (reads_law n.Params ts) ∙ h) in
+    let one : Cons reads (s.Take k.LeftParen) others ts all.first all.mid =
+    cons_got reads (s.Take k.LeftParen) others ts all.first all.mid all.got in
+    opens ts one.mid all.first.0 one.first
 
 abbrev NoParameters : List Bound × Option Rest
 NoParameters = ([], None)

@@ -36,8 +36,10 @@ use Rattle.hz_stands.specs.Nodes.{value_nodes, part_nodes}
 use Rattle.hz_stands.proofs.TreeNodes.{nodes_out, nodes_next}
 use Rattle.hz_stands.proofs.Made.{nodes_applied, row_laws, made_laws}
 use Rattle.hz_stands.proofs.Opening.{Opening}
+use Rattle.hz_stands.proofs.Ends.{Ends}
 use Rattle.hz_stands.proofs.FunctionRows.{declaration_nodes, expression_nodes, arrow_nodes, getter_nodes, setter_nodes}
-use Rattle.hz_stands.proofs.FunctionRows.{generator_nodes, method_nodes}
+use Rattle.hz_stands.proofs.FunctionRows.{generator_nodes, method_nodes, declaration_ends, expression_ends, arrow_ends}
+use Rattle.hz_stands.proofs.FunctionRows.{getter_ends, setter_ends, generator_ends, method_ends}
 
 -- what is made of the parts has the functions that the parts have
 abbrev pub KeepsNodes : (m : Nonterminal) → Row m → Type 0
@@ -46,7 +48,7 @@ KeepsNodes m (refuses cause) = Unit {0}
 
 abbrev pub RowNodes : (m : Nonterminal) → Row m → Option (Skip m) → Type 0
 RowNodes m r None = KeepsNodes m r
-RowNodes m r (Some skip) = Opening m r
+RowNodes m r (Some skip) = (o : Opening m r) × Ends m r o
 
 keeps_if : (m : Nonterminal) (test : Bool) (a b : Row m) → KeepsNodes m a → KeepsNodes m b → KeepsNodes m (if test
     then a else b)
@@ -172,7 +174,7 @@ primary_nodes : (c : Context) (l : Look) (one : Class) → RowNodes (n.Primary c
 primary_nodes c l k.Slash = tt
 primary_nodes c l k.SlashAssign = tt
 primary_nodes c l k.New = new_nodes c l.two
-primary_nodes c l k.Function = expression_nodes c l.two
+primary_nodes c l k.Function = (expression_nodes c l.two, expression_ends c l.two)
 primary_nodes c l k.This = λ p. nodes_out _ ∙ simp made_laws
 primary_nodes c l k.Null = λ p. nodes_out _ ∙ simp made_laws
 primary_nodes c l k.True = λ p. nodes_out _ ∙ simp made_laws
@@ -194,17 +196,17 @@ plain_prop_nodes c l =
 
 keyed_getter : (c : Context) (l : Look) (keyed : Bool) → RowNodes (n.Prop c) (getter_row c l keyed) (getter_skip [] c
     keyed)
-keyed_getter c l true = getter_nodes c l
+keyed_getter c l true = (getter_nodes c l, getter_ends c l)
 keyed_getter c l false = plain_prop_nodes c l
 
 keyed_setter : (c : Context) (l : Look) (keyed : Bool) → RowNodes (n.Prop c) (setter_row c l keyed) (setter_skip [] c
     keyed)
-keyed_setter c l true = setter_nodes c l
+keyed_setter c l true = (setter_nodes c l, setter_ends c l)
 keyed_setter c l false = plain_prop_nodes c l
 
 prop_nodes : (c : Context) (l : Look) (one : Class) → RowNodes (n.Prop c) (prop_by c l one) (prop_skip [] c one l.two)
 prop_nodes c l k.Ellipsis = λ p. nodes_out _ ∙ simp made_laws
-prop_nodes c l k.Star = generator_nodes c l
+prop_nodes c l k.Star = (generator_nodes c l, generator_ends c l)
 prop_nodes c l k.Get = keyed_getter c l (begins_key l.two)
 prop_nodes c l k.Set = keyed_setter c l (begins_key l.two)
 prop_nodes c l _ = plain_prop_nodes c l
@@ -272,7 +274,7 @@ nodes_at (n.Items c) k.Case _ _ _ _ = λ p. first_of (simp row_laws, search rule
 nodes_at (n.Items c) k.Default _ _ _ _ = λ p. first_of (simp row_laws, search rules)
 nodes_at (n.Items c) k.End _ _ _ _ = λ p. first_of (simp row_laws, search rules)
 nodes_at (n.Items c) _ _ _ _ _ = more_items c
-nodes_at (n.Item c) k.Function _ two _ _ = declaration_nodes c two
+nodes_at (n.Item c) k.Function _ two _ _ = (declaration_nodes c two, declaration_ends c two)
 nodes_at (n.Item c) k.Let _ _ _ _ = λ p. nodes_out _ ∙ simp made_laws
 nodes_at (n.Item c) k.Const _ _ _ _ = λ p. nodes_out _ ∙ simp made_laws
 nodes_at (n.Item c) _ _ _ _ _ = item_statement c
@@ -371,7 +373,7 @@ nodes_at (n.MoreProps c) _ _ _ _ _ = λ p. first_of (simp row_laws, search rules
 nodes_at n.ShorthandEnd k.Assign _ _ _ _ = tt
 nodes_at n.ShorthandEnd _ _ _ _ _ = λ p. first_of (simp row_laws, search rules)
 nodes_at (n.KeyRest c) k.Colon _ _ _ _ = λ p. first_of (simp row_laws, search rules)
-nodes_at (n.KeyRest c) k.LeftParen _ _ _ _ = method_nodes c named
+nodes_at (n.KeyRest c) k.LeftParen _ _ _ _ = (method_nodes c named, method_ends c named)
 nodes_at (n.KeyRest c) _ _ _ _ _ = tt
 nodes_at (n.Key c) k.Text _ _ _ _ = λ p. nodes_out _ ∙ simp made_laws
 nodes_at (n.Key c) k.Number _ _ _ _ = λ p. nodes_out _ ∙ simp made_laws
@@ -399,8 +401,9 @@ nodes_at (n.Statement c) one newline two newline' arrow =
 nodes_at (n.Head c) one newline two newline' arrow = head_nodes c (looked one newline two newline' arrow) one
 nodes_at (n.Operation loosest c) one newline two newline' arrow =
     nodes_if (n.Operation loosest c) (is_loosest loosest && begins_arrow (looked one newline two newline' arrow)) _ _
-    (Some (arrow_skip [] loosest c (is_paren one))) None (arrow_nodes loosest c (is_paren one)) (operation_nodes
-    loosest c (is_loosest loosest && c.yields) one)
+    (Some (arrow_skip [] loosest c (is_paren one))) None
+    (arrow_nodes loosest c (is_paren one), arrow_ends loosest c (is_paren one))
+    (operation_nodes loosest c (is_loosest loosest && c.yields) one)
 nodes_at (n.Tails tailed loosest c) one newline two newline' arrow =
     tails_nodes tailed loosest c (looked one newline two newline' arrow) one
 nodes_at (n.Rests loosest tightest c) one newline two newline' arrow =

@@ -1,16 +1,20 @@
 -- Readings of several symbols, one behind the other.
-use Rattle.std.proofs.Common.{◌≡◌, true, false, if◌then◌else◌, List, [], ◌∷◌, ◌++◌, refl, ap, sym, ◌∙◌, append_assoc}
+use Rattle.std.proofs.Common.{◌≡◌, ℕ, true, false, if◌then◌else◌, List, [], ◌∷◌, ◌++◌, refl, ap, sym, ◌∙◌, subst}
+use Rattle.std.proofs.Common.{append_assoc}
 use Rattle.hz_tree.specs.declared.class.Class.{Class}
+use Rattle.hz_tree.specs.declared.nonterminal.Nonterminal.{Nonterminal}
 use Rattle.hz_tree.specs.declared.symbol.Symbol.{Symbol}
 use Rattle.hz_tree.specs.declared.symbol.Symbol.TheVariants as s
 use Rattle.hz_tree.specs.grammar.Classes.{fits}
 use Rattle.hz_tree.specs.grammar.Look.{Terminal, look, stuck}
 use Rattle.hz_tree.specs.grammar.Symbols.{Part, Parts, Value}
+use Rattle.hz_tree.specs.grammar.Table.{row}
 use Rattle.hz_tree.specs.reading.Reading.{Reading, Got, Stuck, Deeper, and_then, takes, Reader, read_one, read_all}
-use Rattle.hz_tree.specs.reading.Reading.{reads}
-use Rattle.hz_tree.specs.reading.Reading.{told_ahead}
+use Rattle.hz_tree.specs.reading.Reading.{told_ahead, reads_to, reads_by, enough, reads}
 use Rattle.hz_laws.specs.Middle.{Balances, hole}
 use Rattle.hz_laws.proofs.Balance.{Then, then_got, got_rest, reading_balance}
+use Rattle.hz_laws.proofs.Depth.{Ends, same_depth}
+use Rattle.hz_laws.proofs.ReadingLaws.{reads_ends}
 use Rattle.hz_cuts.specs.Skips.{front_parts}
 
 -- ---- readings of several symbols
@@ -141,3 +145,30 @@ all_suffix [] ts rest p h = same_suffix ts rest (got_rest tt p ts rest h)
 all_suffix (x ∷ xs) ts rest p h =
     let c : Cons reads x xs ts p rest = cons_got reads x xs ts p rest h in
     suffix_then ts c.mid rest (one_suffix x ts c.mid p.0 c.first) (all_suffix xs c.mid rest p.1 c.others)
+
+-- ---- readings of a bounded depth
+
+module _ (trees : Reader Value)
+    (same : (m : Nonterminal) (ts rest : List Terminal) (v : Value m) → trees m ts ≡ Got v rest
+    → reads m ts ≡ Got v rest) where
+  pub one_same : (x : Symbol) (ts rest : List Terminal) (v : Part Value x) → read_one trees x ts ≡ Got v rest
+      → read_one reads x ts ≡ Got v rest
+  one_same (s.Take wanted) ts rest v h = h
+  one_same (s.Read m) ts rest v h = same m ts rest v h
+  one_same (s.Tell signal) ts rest v h = h
+
+  pub all_same : (xs : List Symbol) (ts rest : List Terminal) (p : Parts Value xs) → read_all trees xs ts ≡ Got p rest
+      → read_all reads xs ts ≡ Got p rest
+  all_same [] ts rest p h = h
+  all_same (x ∷ xs) ts rest p h =
+      let c : Cons trees x xs ts p rest = cons_got trees x xs ts p rest h in
+      cons_makes x xs ts c.mid rest p.0 p.1 (one_same x ts c.mid p.0 c.first) (all_same xs c.mid rest p.1 c.others)
+
+ends_got : {A : Type 0} (r : Reading A) (v : A) (rest : List Terminal) → r ≡ Got v rest → Ends r
+ends_got r v rest h = subst Ends (sym h) tt
+
+pub to_reads : (d : ℕ) (m : Nonterminal) (ts rest : List Terminal) (v : Value m) → reads_to row d m ts ≡ Got v rest
+    → reads m ts ≡ Got v rest
+unfolding reads_by
+to_reads d m ts rest v h =
+    sym (same_depth row d (enough ts) m ts (ends_got (reads_to row d m ts) v rest h) (reads_ends m ts)) ∙ h
