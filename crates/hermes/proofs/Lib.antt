@@ -1,6 +1,9 @@
+pub mod Characters
 pub mod Fronts
 pub mod Outputs
+pub mod Pieces
 pub mod Refused
 pub mod Sources
+pub mod StatusExamples
 pub mod Streams
 pub mod first_texts

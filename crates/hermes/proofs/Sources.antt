@@ -86,6 +86,7 @@ module _ (strict : Bool) (n : ℕ) (is : n ≡ max_length + 1) where
   whole status.Memory s old new (inl (calls, r, a)) = inl (calls, runnable s calls r, a)
   whole status.Memory s old new (inr k) = inr k
   whole (status.Usage word) s old new none = none
+  whole (status.Uncaught description) s old new none = none
 
   -- What was read of a file says of the whole source what it says.
   pub read_whole : (held : Option Contents) (name bytes : List ℕ) (end : Status) (old new : Told)

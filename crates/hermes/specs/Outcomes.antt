@@ -44,6 +44,8 @@ Outcome status.ReadFault strict source old new = Prints old new []
 Outcome status.WriteFault strict source old new = PrintedFront strict source old new
 Outcome status.Memory strict source old new = PrintedFront strict source old new ⊎ Prints old new []
 Outcome (status.Usage word) strict source old new = ⊥
+-- a first text throws nothing
+Outcome (status.Uncaught description) strict source old new = ⊥
 
 -- no source was read
 abbrev pub IsUnread : Status → Type 0

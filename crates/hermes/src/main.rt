@@ -15,6 +15,7 @@ mod disk;
 mod first;
 mod source;
 mod status;
+mod telling;
 mod top;
 mod words;
 
@@ -49,7 +50,7 @@ fn run_program(rt: &HostRuntime) -> Status {
             Blank::new(1),
         ),
         Err(AllocError) => {
-            top::tell(Status::Memory, &mut err);
+            telling::tell(&Status::Memory, &mut err);
             Status::Memory
         }
     }

@@ -2,18 +2,21 @@
 
 ghost use Rattle.std.specs.Prelude.{◌≡◌, ◌+◌, ◌≤◌, [], ◌∷◌, ◌++◌, codes, decimal, length};
 ghost use Rattle.hz_tree.specs.sources.Shown.{text_of_refusal};
-ghost use Rattle.hermes.specs.Statuses.{code_of, line_of};
+ghost use Rattle.hermes.specs.Statuses.{behind_front, code_of, line_of};
 
 use arrayvec::ArrayVec;
 use hz_tree::Refusal;
-use hz_value::Left;
+use hz_value::{Left, Units};
 use itoa::Buffer;
 
 /// How a call of the command ended.
-#[derive(Clone, Copy, Debug, PartialEq, Eq)]
+#[derive(Debug, Drop)]
 pub enum Status {
     /// The script ran to its end.
     Done,
+
+    /// The script threw a value that nothing caught, which has this description.
+    Uncaught(Units),
 
     /// The words are no command. This is the number of the first word at which they stop beginning one.
     Usage(usize),
@@ -34,8 +37,8 @@ pub enum Status {
     Memory,
 }
 
-/// A line on standard error.
-type Line = ArrayVec<u8, 128>;
+/// A line on standard error, but for a description.
+type Front = ArrayVec<u8, 128>;
 
 impl Status {
     /// The code that the process ends with.
@@ -44,6 +47,7 @@ impl Status {
     {
         match self {
             Status::Done => 0,
+            Status::Uncaught(_) => 1,
             Status::Usage(_) => 2,
             Status::Refused(_) => 3,
             Status::Left(_) => 5,
@@ -53,12 +57,14 @@ impl Status {
         }
     }
 
-    /// The line on standard error with its newline, or nothing where there is none. It takes no memory.
-    pub fn line(&self) -> Line
-        ensures { result.items ≡ line_of self.now }
+    /// The line on standard error with its newline, or nothing where there is none. Where it has a description, what
+    /// stands before that. It takes no memory.
+    pub fn front(&self) -> Front
+        ensures { line_of self.now ≡ result.items ++ behind_front self.now }
     {
         match self {
             Status::Done => ArrayVec::new(),
+            Status::Uncaught(_) => begun(b"Uncaught "),
             Status::Usage(word) => numbered(b"usage error at word ", *word),
             Status::Refused(refusal) => refused(*refusal),
             Status::Left(reason) => sentence(b"left: ", reason.name().as_bytes()),
@@ -70,7 +76,7 @@ impl Status {
 }
 
 // A refusal, with its place where it has one.
-fn refused(refusal: Refusal) -> Line
+fn refused(refusal: Refusal) -> Front
     ensures { result.items ≡ codes "refused: " ++ text_of_refusal refusal ++ 10 ∷ [] }
 {
     match refusal {
@@ -87,14 +93,13 @@ fn refused(refusal: Refusal) -> Line
 }
 
 // The words with a kind's name and its place behind them.
-fn placed(words: &[u8], name: &str, at: usize) -> Line
+fn placed(words: &[u8], name: &str, at: usize) -> Front
     requires words { length words.now ≤ 20 }
     requires name { length name.now ≤ 18 }
     ensures { result.items ≡ words.now ++ name.now ++ codes ") at " ++ decimal at ++ 10 ∷ [] }
 {
     let mut digits = Buffer::new();
-    let mut line = ArrayVec::new();
-    add(&mut line, words);
+    let mut line = begun(words);
     add(&mut line, name.as_bytes());
     add(&mut line, b") at ");
     add(&mut line, digits.format(at).as_bytes());
@@ -103,7 +108,7 @@ fn placed(words: &[u8], name: &str, at: usize) -> Line
 }
 
 // The words, and a number behind them.
-fn numbered(words: &[u8], number: usize) -> Line
+fn numbered(words: &[u8], number: usize) -> Front
     requires { length words.now ≤ 20 }
     ensures { result.items ≡ words.now ++ decimal number ++ 10 ∷ [] }
 {
@@ -112,19 +117,28 @@ fn numbered(words: &[u8], number: usize) -> Line
 }
 
 // The words, and these bytes behind them.
-fn sentence(words: &[u8], more: &[u8]) -> Line
+fn sentence(words: &[u8], more: &[u8]) -> Front
     requires words { length words.now ≤ 20 }
     requires more { length more.now ≤ 40 }
     ensures { result.items ≡ words.now ++ more.now ++ 10 ∷ [] }
 {
-    let mut line = ArrayVec::new();
-    add(&mut line, words);
+    let mut line = begun(words);
     add(&mut line, more);
     line.push(b'\n');
     line
 }
 
-fn add(line: &mut Line, bytes: &[u8])
+// The words alone.
+fn begun(words: &[u8]) -> Front
+    requires { length words.now ≤ 20 }
+    ensures { result.items ≡ words.now }
+{
+    let mut line = ArrayVec::new();
+    add(&mut line, words);
+    line
+}
+
+fn add(line: &mut Front, bytes: &[u8])
     requires { length line.old.items + length bytes.now ≤ 128 }
     ensures { line.new.items ≡ line.old.items ++ bytes.now }
 {

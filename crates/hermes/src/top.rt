@@ -9,6 +9,7 @@ ghost use Rattle.hermes.specs.Words.{usage_fault, file_of, strict_of};
 
 use crate::source::run_source;
 use crate::status::Status;
+use crate::telling::tell;
 use crate::words::{Command, command_of};
 use hz_io::{FileFault, Files, Sink, Source};
 use hz_tree::MAX_LENGTH;
@@ -65,7 +66,7 @@ pub fn hermes<F: Files, S: Source, K: Sink, E: Sink, L: Ledger>(
     ensures steps { steps.new ≡ steps.old }
 {
     let status = run_words(alloc, words, files, out);
-    tell(status, err);
+    tell(&status, err);
     status
 }
 
@@ -115,20 +116,5 @@ fn read_and_run<F: Files, K: Sink>(
         Ok(source) => run_source(alloc, strict, source.as_slice(), out),
         Err(FileFault::Failed) => Status::ReadFault,
         Err(FileFault::Memory) => Status::Memory,
-    }
-}
-
-/// Sends the line of the status, where it has one. After a fault a front of it was sent.
-pub fn tell<E: Sink>(status: Status, err: &mut E)
-    ensures line { GetsLine (E.told err.old).got (E.told err.new).got (E.count err.old) (E.count err.new)
-        (line_of status) }
-{
-    let line = status.line();
-    if line.is_empty() {
-        return;
-    }
-    match err.put(line.as_slice()) {
-        Ok(()) => {}
-        Err(_) => {}
     }
 }

@@ -9,7 +9,7 @@ use Rattle.hz_value.specs.world.World.{World, Line}
 use Rattle.hz_value.specs.system.Acts as act
 use Rattle.hz_value.specs.system.Routines.{RoutineActivation, text_or_empty}
 use Rattle.hz_operators.specs.declared.halt.Halt.{Halt}
-use Rattle.hz_operators.specs.Outcomes.{Halted}
+use Rattle.hz_operators.specs.Outcomes.{halted}
 use Rattle.hz_machine.specs.declared.routine.RoutineAct.{RoutineAct}
 use Rattle.hz_machine.specs.declared.routine.RoutineAct.TheVariants.{Go, Print, Return, Throw, Leave}
 use Rattle.hz_machine.specs.Kept.{KeptWorld, world_of}
@@ -20,7 +20,7 @@ texts_of s values = map (λ v. text_or_empty (to_text (content_of s v))) values
 -- there is a text, or it halted for this cause
 abbrev pub HasText : Result (Unit {0}) Halt → Computed (List ℕ) → Type 0
 HasText (Ok done) found = found ≡ Gives (text_or_empty found)
-HasText (Err cause) found = Halted cause found
+HasText (Err cause) found = found ≡ halted cause
 
 abbrev pub next_of_routine : RoutineAct → RoutineActivation → World → act.Next RoutineActivation
 next_of_routine Go r w = act.Goes r w

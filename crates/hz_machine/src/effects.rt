@@ -3,7 +3,7 @@ ghost use Rattle.std.specs.Prelude.{◌≡◌, ◌<◌, ◌^◌, ℕ, Bool, List
 ghost use Rattle.hz_value.specs.operators.Computed.{Computed, Gives, and_then};
 ghost use Rattle.hz_value.specs.operators.Contents.{Content, Boolean, Number, Text};
 ghost use Rattle.hz_value.specs.world.World.{Line};
-ghost use Rattle.hz_operators.specs.Outcomes.{Means};
+ghost use Rattle.hz_operators.specs.Outcomes.{Means, MeansText};
 ghost use Rattle.hz_operators.specs.Sums.{sum_content};
 ghost use Rattle.hz_ops.specs.code.Effects.{raises, puts_content, gives, lands_at, jumps, branches};
 ghost use Rattle.hz_value.specs.system.Acts.{take_turn};
@@ -11,13 +11,13 @@ ghost use Rattle.hz_ops.specs.code.Activations.{Activation, at};
 ghost use Rattle.hz_machine.specs.Errors.{message_of};
 ghost use Rattle.hz_machine.specs.Kept.{world_of};
 ghost use Rattle.hz_machine.specs.Frames.{next_of};
-ghost use Rattle.hz_machine.specs.Effects.{Follows, Stops};
+ghost use Rattle.hz_machine.specs.Effects.{Follows, Stops, StopsText, TakesStep};
 
 use crate::act::Act;
 use crate::errors::Cause;
 use crate::frame::Frame;
 use crate::kept::Kept;
-use hz_operators::Halt;
+use hz_operators::{Halt, TextHalt};
 use hz_ops::Held;
 use hz_value::{Memory, Safe, Value};
 
@@ -38,7 +38,16 @@ pub(crate) fn stop(kept: &mut Kept, cause: Halt) -> Result<Act, Memory>
     match cause {
         Halt::Symbol => raise(kept, &Cause::SymbolConversion),
         Halt::Leaves(reason) => Ok(Act::Leave(reason)),
-        Halt::Memory => Err(Memory),
+    }
+}
+
+/// One that makes a text gave none.
+fn stop_text(kept: &mut Kept, cause: TextHalt) -> Result<Act, Memory>
+    ensures { IfOk result (λ act. StopsText act cause kept.old kept.new) }
+{
+    match cause {
+        TextHalt::Halt(cause) => stop(kept, cause),
+        TextHalt::Memory => Err(Memory),
     }
 }
 
@@ -104,14 +113,14 @@ pub(crate) fn give_text(
     frame: &mut Frame,
     next: u64,
     to: u64,
-    found: Result<Vec<u16>, Halt>,
+    found: Result<Vec<u16>, TextHalt>,
 ) -> Result<Act, Memory>
-    ensures { (c : Computed (List ℕ)) → Means (λ t. t.items) found c → Follows result frame.new kept.new
+    ensures { (c : Computed (List ℕ)) → MeansText (λ t. t.items) found c → Follows result frame.new kept.new
         (λ lines. gives next frame.old (world_of lines kept.old) to (and_then c (λ t. Gives (Text t)))) }
 {
     match found {
         Ok(text) => put_text(kept, frame, next, to, text),
-        Err(cause) => stop(kept, cause),
+        Err(cause) => stop_text(kept, cause),
     }
 }
 
@@ -121,10 +130,10 @@ pub(crate) fn give_sum(
     frame: &mut Frame,
     next: u64,
     to: u64,
-    found: Result<Option<Safe>, Halt>,
+    found: Result<Option<Safe>, TextHalt>,
     text: Vec<u16>,
 ) -> Result<Act, Memory>
-    ensures { (c : Computed Content) → Means (λ number. sum_content number text.items) found c
+    ensures { (c : Computed Content) → MeansText (λ number. sum_content number text.items) found c
         → Follows result frame.new kept.new
         (λ lines. gives next frame.old (world_of lines kept.old) to c) }
 {
@@ -134,14 +143,14 @@ pub(crate) fn give_sum(
             Ok(Act::Go)
         }
         Ok(None) => put_text(kept, frame, next, to, text),
-        Err(cause) => stop(kept, cause),
+        Err(cause) => stop_text(kept, cause),
     }
 }
 
 /// Goes on at a place that is not behind the instruction in hand, where a turn is left.
 fn turn_to(kept: &mut Kept, frame: &mut Frame, place: u64) -> Act
-    ensures { (lines : List Line) → next_of result frame.new (world_of lines kept.new)
-        ≡ take_turn (at place frame.old) (world_of lines kept.old) }
+    ensures { TakesStep result frame.new kept.new
+        (λ lines. take_turn (at place frame.old) (world_of lines kept.old)) }
 {
     frame.go(place);
     if kept.turns == 0 {
@@ -153,8 +162,7 @@ fn turn_to(kept: &mut Kept, frame: &mut Frame, place: u64) -> Act
 
 /// Goes on at this place.
 fn land_at(kept: &mut Kept, frame: &mut Frame, place: u64) -> Act
-    ensures { (lines : List Line) → next_of result frame.new (world_of lines kept.new)
-        ≡ lands_at frame.old (world_of lines kept.old) place }
+    ensures { TakesStep result frame.new kept.new (λ lines. lands_at frame.old (world_of lines kept.old) place) }
 {
     if frame.place() < place {
         frame.go(place);
@@ -166,8 +174,7 @@ fn land_at(kept: &mut Kept, frame: &mut Frame, place: u64) -> Act
 /// Jumps so many bytes from the instruction in hand.
 pub(crate) fn jump(kept: &mut Kept, frame: &mut Frame, way: i64) -> Act
     requires { (frame.old).place < 2 ^ 63 }
-    ensures { (lines : List Line) → next_of result frame.new (world_of lines kept.new)
-        ≡ jumps frame.old (world_of lines kept.old) way }
+    ensures { TakesStep result frame.new kept.new (λ lines. jumps frame.old (world_of lines kept.old) way) }
 {
     let place = frame.place() as i128 + way as i128;
     if place < 0 {
@@ -179,8 +186,8 @@ pub(crate) fn jump(kept: &mut Kept, frame: &mut Frame, way: i64) -> Act
 /// Jumps where the test holds.
 pub(crate) fn branch(kept: &mut Kept, frame: &mut Frame, next: u64, holds: bool, way: i64) -> Act
     requires { (frame.old).place < 2 ^ 63 }
-    ensures { (lines : List Line) → next_of result frame.new (world_of lines kept.new)
-        ≡ branches holds next frame.old (world_of lines kept.old) way }
+    ensures { TakesStep result frame.new kept.new
+        (λ lines. branches holds next frame.old (world_of lines kept.old) way) }
 {
     if holds {
         return jump(kept, frame, way);

@@ -68,7 +68,8 @@ impl Frame {
 
     /// The function: the script.
     pub(crate) fn function(&self) -> u32
-        ensures { result ≡ (self.now).function }
+        ensures function { result ≡ (self.now).function }
+        ensures script { result ≡ 0 }
     {
         let _place = self.place;
         0

@@ -1,5 +1,5 @@
 // The machine.
-ghost use Rattle.std.specs.Prelude.{◌≡◌, ◌∷◌, List, None, Some, IfOk, false};
+ghost use Rattle.std.specs.Prelude.{◌≡◌, ◌<◌, ◌∷◌, List, None, Some, IfOk, false};
 ghost use Rattle.hz_value.specs.declared.values.Value.{Value as AnyValue};
 ghost use Rattle.hz_ops.specs.code.Activations.{Program};
 ghost use Rattle.hz_machine.specs.declared.machine.Answer.TheVariants as answer;
@@ -245,6 +245,7 @@ fn script_step<C: Code>(
 ) -> Result<Answer, Memory>
     requires none { routine.old ≡ None }
     requires running { status.old ≡ mode.Running }
+    requires script { 0 < (C.program code.now).count }
     ensures { IfOk result (λ a. Steps (C.program code.now) (machine_of kept.old frame.old None mode.Running) a
         (machine_of kept.new frame.new routine.new status.new)) }
 {
@@ -340,6 +341,7 @@ fn run_step<C: Code>(
     code: &C,
 ) -> Result<Answer, Memory>
     requires running { status.old ≡ mode.Running }
+    requires script { 0 < (C.program code.now).count }
     ensures { IfOk result (λ a. Proceeds (C.program code.now)
         (machine_of kept.old frame.old routine.old mode.Running) a
         (machine_of kept.new frame.new routine.new status.new)) }
@@ -351,7 +353,7 @@ fn run_step<C: Code>(
 }
 
 impl Machine {
-    ghost use Rattle.std.specs.Prelude.{◌≡◌, None, true, false, IfOk, OnOk, OnErr, IsOk};
+    ghost use Rattle.std.specs.Prelude.{◌≡◌, ◌<◌, None, true, false, IfOk, OnOk, OnErr, IsOk};
     ghost use Rattle.hz_value.specs.declared.leaving.Left.TheVariants.{LongLine};
     ghost use Rattle.hz_value.specs.world.Descriptions.{describe};
     ghost use Rattle.hz_machine.specs.Kept.{store_of};
@@ -363,6 +365,7 @@ impl Machine {
     /// the same. `Memory`: memory ran out; so each further step answers. `Need` never comes: no function but the script
     /// is entered.
     pub fn step<C: Code>(&mut self, code: &C) -> Answer
+        requires { 0 < (C.program code.now).count }
         ensures { Answers (C.program code.now) self.old result self.new }
     {
         match &self.status {
@@ -423,6 +426,7 @@ impl Machine {
 
     /// The start of a run of this code, with so many turns. After Memory there is none.
     pub fn start<C: Code>(alloc: Global, code: &C, turns: u64) -> Result<Machine, Memory>
+        requires { 0 < (C.program code.now).count }
         ensures { IfOk result (λ m. Starts (C.program code.now) turns m) }
     {
         let kept = first_world(alloc, turns)?;
@@ -439,6 +443,7 @@ impl Machine {
     /// The start of such a run whose script has called `readline`: no object of the start is that function. The first
     /// step asks for a line. After Memory there is none.
     pub fn start_reading<C: Code>(alloc: Global, code: &C, turns: u64) -> Result<Machine, Memory>
+        requires { 0 < (C.program code.now).count }
         ensures { IfOk result (λ m. StartsReading (C.program code.now) turns m) }
     {
         let mut kept = first_world(alloc, turns)?;

@@ -167,7 +167,6 @@ fn convert(kept: &mut Kept, routine: &mut Routine, value: Value) -> Result<Routi
             Ok(RoutineAct::Throw(error))
         }
         Err(Halt::Leaves(reason)) => Ok(RoutineAct::Leave(reason)),
-        Err(Halt::Memory) => Err(Memory),
     }
 }
 

@@ -1,5 +1,5 @@
 // The start of a run.
-ghost use Rattle.std.specs.Prelude.{◌≡◌, [], IfOk, replicate};
+ghost use Rattle.std.specs.Prelude.{◌≡◌, ◌<◌, [], IfOk, replicate};
 ghost use Rattle.hz_value.specs.declared.values.Value.TheVariants as value;
 ghost use Rattle.hz_value.specs.world.Start.{texts0, globals0};
 ghost use Rattle.hz_value.specs.world.Store.{interned};
@@ -109,6 +109,7 @@ pub(crate) fn first_world(alloc: Global, turns: u64) -> Result<Kept, Memory>
 
 /// The script at its entry.
 pub(crate) fn first_frame<C: Code>(alloc: Global, code: &C) -> Result<Frame, Memory>
+    requires { 0 < (C.program code.now).count }
     ensures { IfOk result (λ frame. frame ≡ code_script (C.program code.now)) }
 {
     let registers = fresh_registers(alloc, code.registers(0))?;

@@ -3,7 +3,7 @@ ghost use Rattle.std.specs.Prelude.{◌≡◌, ◌+◌, ◌<◌, ◌^◌, IfSome
 ghost use Rattle.hz_ops.specs.code.Effects.{puts_value};
 ghost use Rattle.hz_ops.specs.code.Steps.{code_step, result_into, instruction_step};
 ghost use Rattle.hz_machine.specs.Kept.{world_of};
-ghost use Rattle.hz_machine.specs.Effects.{Follows};
+ghost use Rattle.hz_machine.specs.Effects.{Follows, TakesStep};
 ghost use Rattle.hz_machine.specs.Frames.{next_of};
 
 use crate::act::Act;
@@ -15,24 +15,18 @@ use hz_ops::{Held, Instr, Operand, tested};
 use hz_value::{Memory, Value};
 
 /// The result of a call goes into the register that the instruction names first.
-fn result_into(
-    kept: &Kept,
-    frame: &mut Frame,
-    next: u64,
-    value: Value,
-    operands: &[Operand],
-) -> Result<Act, Memory>
-    ensures { Follows result frame.new kept.now
+fn result_into(kept: &Kept, frame: &mut Frame, next: u64, value: Value, operands: &[Operand]) -> Act
+    ensures { TakesStep result frame.new kept.now
         (λ lines. result_into next frame.old (world_of lines kept.now) value operands.now) }
 {
     let [Operand::Register(r), ..] = operands else {
-        return Ok(Act::Bad);
+        return Act::Bad;
     };
     let Some(to) = tested::register(frame.held(), *r) else {
-        return Ok(Act::Bad);
+        return Act::Bad;
     };
     frame.put(next, to, Held::Value(value));
-    Ok(Act::Go)
+    Act::Go
 }
 
 /// The instruction in hand, of so many bytes.
@@ -51,7 +45,7 @@ fn instruction_step<C: Code>(
     match frame.reply {
         None => row(kept, frame, code, next, instr.args.as_slice(), instr.op),
         Some(Reply::Normal(value)) => {
-            result_into(kept, frame, next, value, instr.args.as_slice())
+            Ok(result_into(kept, frame, next, value, instr.args.as_slice()))
         }
         Some(Reply::Thrown(value)) => Ok(Act::Throw(value)),
     }
@@ -59,6 +53,7 @@ fn instruction_step<C: Code>(
 
 /// The instruction in hand, with its length in bytes.
 fn instruction_at<C: Code>(frame: &Frame, code: &C) -> Option<(Instr, u64)>
+    requires { 0 < (C.program code.now).count }
     ensures value { result ≡ (C.program code.now).fetch (frame.now).function (frame.now).place }
     ensures bound { IfSome result (λ r. (frame.now).place + r.1 < 2 ^ 63) }
 {
@@ -71,6 +66,7 @@ pub(crate) fn code_step<C: Code>(
     frame: &mut Frame,
     code: &C,
 ) -> Result<Act, Memory>
+    requires { 0 < (C.program code.now).count }
     ensures { Follows result frame.new kept.new
         (λ lines. code_step (C.program code.now) frame.old (world_of lines kept.old)) }
 {

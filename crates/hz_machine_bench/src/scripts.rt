@@ -101,6 +101,7 @@ pub(crate) fn script_of(alloc: Global, shape: &str, rounds: u32) -> Result<Scrip
     Ok(Script {
         code,
         registers: 6,
+        handlers: Vec::new(alloc),
         texts,
     })
 }

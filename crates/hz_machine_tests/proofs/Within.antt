@@ -1,5 +1,5 @@
 -- An instruction that is read lies within the code, and takes some bytes of it.
-use Rattle.std.proofs.Common.{◌≡◌, ℕ, ◌+◌, ◌-◌, ◌%◌, ◌<◌, ◌≤◌, List, [], ◌∷◌, length, take, drop, Option, None, Some, refl, zero, suc, false, nat_eq}
+use Rattle.std.proofs.Common.{◌≡◌, ℕ, ◌+◌, ◌-◌, ◌%◌, ◌<◌, ◌≤◌, List, [], ◌∷◌, length, take, drop, Option, None, Some}
 use Rattle.std.proofs.Common.{ap, sym, subst, arith}
 use Rattle.std.specs.Prelude.{option_map, nat_le, Bool}
 use Rattle.std.proofs.lemmas.List.{length-take, length-drop}
@@ -7,7 +7,6 @@ use Rattle.hz_ops.specs.declared.op.Op.{Op}
 use Rattle.hz_ops.specs.declared.op.Operand.{Operand}
 use Rattle.hz_ops.specs.declared.instr.Instr.{Instr}
 use Rattle.hz_ops.specs.Table.{kinds_of, op_at}
-use Rattle.hz_ops.specs.Activations.{FunctionCode, code_of}
 use Rattle.hz_ops.specs.Coding.{instr_of, operands_at, with_operation, front, decode_at, spelling}
 
 some_same : {T : Type 0} {x y : T} → Some x ≡ Some y → x ≡ y
@@ -36,12 +35,3 @@ decoded_within bytes at i n e written =
       omega (arith, length-take n (drop at bytes), length-drop at bytes),
       omega (arith, length-take n (drop at bytes), length-drop at bytes),
     )
-
--- there is only one function
-pub no_other_function : (c : FunctionCode) (texts : List (List ℕ)) (f at : ℕ) → nat_eq f 0 ≡ false →
-    decode_at (code_of (record { functions = c ∷ []; texts = texts }) f) at ≡ None
-no_other_function c texts zero at other = cc
-no_other_function c texts (suc zero) zero other = refl
-no_other_function c texts (suc zero) (suc at) other = refl
-no_other_function c texts (suc (suc f)) zero other = refl
-no_other_function c texts (suc (suc f)) (suc at) other = refl

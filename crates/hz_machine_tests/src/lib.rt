@@ -8,6 +8,8 @@ mod lines;
 #[cfg(test)]
 mod met;
 #[cfg(test)]
+mod programs;
+#[cfg(test)]
 mod rows;
 #[cfg(test)]
 mod runs;

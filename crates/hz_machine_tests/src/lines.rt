@@ -50,6 +50,7 @@ fn printing(alloc: Global) -> Result<Script, Memory> {
     Ok(Script {
         code,
         registers: 3,
+        handlers: Vec::new(alloc),
         texts,
     })
 }

@@ -23,6 +23,7 @@ pub(crate) fn script(alloc: Global, bytes: &[u8], more: &[u8]) -> Result<Script,
     Ok(Script {
         code,
         registers: 6,
+        handlers: Vec::new(alloc),
         texts,
     })
 }

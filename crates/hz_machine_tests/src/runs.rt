@@ -115,6 +115,7 @@ fn counting(alloc: Global) -> Result<Script, Memory> {
     Ok(Script {
         code,
         registers: 4,
+        handlers: Vec::new(alloc),
         texts,
     })
 }
@@ -153,6 +154,7 @@ fn bytes(alloc: Global, bytes: &[u8]) -> Result<Script, Memory> {
     Ok(Script {
         code,
         registers: 2,
+        handlers: Vec::new(alloc),
         texts: Vec::new(alloc),
     })
 }

@@ -1,12 +1,13 @@
 ghost use Rattle.std.specs.Prelude.{◌≡◌, [], ◌∷◌, map, IfOk};
-ghost use Rattle.hz_ops.specs.code.Bytes.{program_of};
+ghost use Rattle.hz_ops.specs.code.Bytes.{holds, program_of, script_module, target_at};
 
 use hz_machine::{Code, Entry};
-use hz_ops::{Instr, decode};
+use hz_ops::{Handler, Instr, decode};
+use hz_tree::FunctionKind;
 use hz_value::Memory;
 use std::alloc::Global;
 
-/// A script whose instructions are these bytes, with its texts.
+/// A script whose instructions are these bytes, with its handlers and its texts.
 #[derive(Debug, Drop)]
 pub struct Script {
     /// The bytes of its instructions.
@@ -15,19 +16,41 @@ pub struct Script {
     /// How many registers it has.
     pub registers: u64,
 
+    /// Its handlers, inner ones first.
+    pub handlers: Vec<Handler>,
+
     /// Its texts, as units.
     pub texts: Vec<Vec<u16>>,
 }
 
-#[tactic(auto, using(crate::proofs::Within::decoded_within, crate::proofs::Within::no_other_function))]
-impl Code for Script {
-    ghost use Rattle.std.specs.Prelude.{◌∷◌, [], map};
-    ghost use Rattle.hz_ops.specs.code.Bytes.{program_of};
+/// Whether the handler holds the place.
+fn holds(handler: &Handler, place: u64) -> bool
+    ensures { result ≡ holds handler.now place }
+{
+    handler.from <= place && place < handler.to
+}
 
-    ghost program = { λ s. program_of (record {
-      functions = record { code = s.code.items; registers = s.registers } ∷ [];
-      texts = map (λ t. t.items) s.texts.items;
-    }) };
+/// The target of the first handler that holds the place.
+fn target_at(handlers: &[Handler], place: u64) -> Option<u64>
+    ensures { result ≡ target_at handlers.now place }
+{
+    let mut left = handlers;
+    while let [handler, rest @ ..] = left {
+        if holds(handler, place) {
+            return Some(handler.target);
+        }
+        left = rest;
+    }
+    None
+}
+
+#[tactic(auto, using(crate::proofs::Within::decoded_within))]
+impl Code for Script {
+    ghost use Rattle.std.specs.Prelude.{map};
+    ghost use Rattle.hz_ops.specs.code.Bytes.{program_of, script_module};
+
+    ghost program = { λ s. program_of
+        (script_module s.code.items s.registers s.handlers.items (map (λ t. t.items) s.texts.items)) };
 
     fn count(&self) -> u32 {
         1
@@ -37,16 +60,27 @@ impl Code for Script {
         Entry::Code
     }
 
-    fn registers(&self, f: u32) -> u64 {
-        if f == 0 { self.registers } else { 0 }
+    fn kind(&self, _f: u32) -> FunctionKind {
+        FunctionKind::Script
     }
 
-    fn fetch(&self, f: u32, pc: u64) -> Option<(Instr, u64)> {
-        if f != 0 {
-            return None;
+    fn length(&self, _f: u32) -> u8 {
+        0
+    }
+
+    fn registers(&self, _f: u32) -> u64 {
+        self.registers
+    }
+
+    fn fetch(&self, _f: u32, pc: u64) -> Option<(Instr, u64)> {
+        match decode(self.code.as_slice(), pc as usize) {
+            Some((instr, length)) => Some((instr, length as u64)),
+            None => None,
         }
-        let (instr, length) = decode(self.code.as_slice(), pc as usize)?;
-        Some((instr, length as u64))
+    }
+
+    fn handler(&self, _f: u32, pc: u64) -> Option<u64> {
+        target_at(self.handlers.as_slice(), pc)
     }
 
     fn has_string(&self, id: u64) -> bool {

@@ -8,7 +8,7 @@ ghost use Rattle.hz_operators.specs.Outcomes.{content_of, Means, MeansPushed};
 
 use crate::bits::small;
 use crate::contents::Content;
-use crate::halt::Halt;
+use crate::halt::{Halt, TextHalt};
 use hz_value::{Left, Memory, Safe, number_text, units_number};
 use std::alloc::Global;
 
@@ -85,7 +85,7 @@ fn push_units(units: &mut Vec<u16>, text: &[u16]) -> Result<(), Memory>
 }
 
 /// Puts the text of a value behind the units: ToString (7.1.17). At an object the run is left.
-pub fn push_text(alloc: Global, units: &mut Vec<u16>, content: &Content<'_>) -> Result<(), Halt>
+pub fn push_text(alloc: Global, units: &mut Vec<u16>, content: &Content<'_>) -> Result<(), TextHalt>
     ensures { MeansPushed units.old.items units.new.items result (to_text (content_of content.now)) }
 {
     match content {
@@ -95,8 +95,8 @@ pub fn push_text(alloc: Global, units: &mut Vec<u16>, content: &Content<'_>) -> 
         Content::Boolean(false) => push_ascii(units, "false")?,
         Content::Number(number) => push_number(alloc, units, *number)?,
         Content::Text(text) => push_units(units, text)?,
-        Content::Symbol(_) => return Err(Halt::Symbol),
-        Content::Object(_) => return Err(Halt::Leaves(Left::NotBuilt)),
+        Content::Symbol(_) => return Err(TextHalt::Halt(Halt::Symbol)),
+        Content::Object(_) => return Err(TextHalt::Halt(Halt::Leaves(Left::NotBuilt))),
     }
     Ok(())
 }

@@ -2,12 +2,12 @@
 ghost use Rattle.std.specs.Prelude.{◌≡◌, []};
 ghost use Rattle.hz_value.specs.Numbers.{sum_of};
 ghost use Rattle.hz_value.specs.operators.Arithmetic.{add, add_primitives, is_text, join_texts, on_numbers};
-ghost use Rattle.hz_operators.specs.Outcomes.{content_of, Means};
+ghost use Rattle.hz_operators.specs.Outcomes.{content_of, Means, MeansText};
 ghost use Rattle.hz_operators.specs.Sums.{sum_content};
 
 use crate::contents::Content;
 use crate::conversions::{expect_primitive, push_text};
-use crate::halt::Halt;
+use crate::halt::TextHalt;
 use crate::numbers::{NumberOperator, on_numbers};
 use hz_value::Safe;
 use std::alloc::Global;
@@ -24,9 +24,9 @@ fn join(
     u: &Content<'_>,
     v: &Content<'_>,
     text: &mut Vec<u16>,
-) -> Result<Option<Safe>, Halt>
+) -> Result<Option<Safe>, TextHalt>
     requires { text.old.items ≡ [] }
-    ensures { Means (λ number. sum_content number text.new.items) result
+    ensures { MeansText (λ number. sum_content number text.new.items) result
         (join_texts (content_of u.now) (content_of v.now)) }
 {
     push_text(alloc, text, u)?;
@@ -34,29 +34,21 @@ fn join(
     Ok(None)
 }
 
-/// The sum of two values as numbers.
-fn sum(u: &Content<'_>, v: &Content<'_>) -> Result<Option<Safe>, Halt>
-    ensures { Means (λ number. sum_content number []) result
-        (on_numbers sum_of (content_of u.now) (content_of v.now)) }
-{
-    let sum = on_numbers(NumberOperator::Sum, u, v)?;
-    Ok(Some(sum))
-}
-
 fn add_primitives(
     alloc: Global,
     u: &Content<'_>,
     v: &Content<'_>,
     text: &mut Vec<u16>,
-) -> Result<Option<Safe>, Halt>
+) -> Result<Option<Safe>, TextHalt>
     requires { text.old.items ≡ [] }
-    ensures { Means (λ number. sum_content number text.new.items) result
+    ensures { MeansText (λ number. sum_content number text.new.items) result
         (add_primitives (content_of u.now) (content_of v.now)) }
 {
     if is_text(u) || is_text(v) {
         return join(alloc, u, v, text);
     }
-    sum(u, v)
+    let sum = on_numbers(NumberOperator::Sum, u, v)?;
+    Ok(Some(sum))
 }
 
 /// `u + v`: where one of them is a text the texts are joined in `text`, else it is the sum of the numbers.
@@ -65,9 +57,9 @@ pub fn add(
     u: &Content<'_>,
     v: &Content<'_>,
     text: &mut Vec<u16>,
-) -> Result<Option<Safe>, Halt>
+) -> Result<Option<Safe>, TextHalt>
     requires { text.old.items ≡ [] }
-    ensures { Means (λ number. sum_content number text.new.items) result
+    ensures { MeansText (λ number. sum_content number text.new.items) result
         (add (content_of u.now) (content_of v.now)) }
 {
     expect_primitive(u)?;

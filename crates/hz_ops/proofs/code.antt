@@ -1,4 +1,5 @@
 pub mod Running
 pub mod Turns
+mod ProgramExamples
 mod RowExamples
 mod BadCodeExamples

@@ -12,6 +12,7 @@
 #![tactic(auto)]
 
 mod coding;
+mod handler;
 mod held;
 mod instr;
 mod laws;
@@ -23,6 +24,7 @@ mod table;
 pub mod tested;
 
 pub use coding::{decode, encode_into, fits};
+pub use handler::Handler;
 pub use held::Held;
 pub use instr::{Instr, push_instr};
 pub use laws::{

@@ -2,7 +2,7 @@
 ghost use Rattle.std.specs.Prelude.{◌≡◌, ◌<◌, ◌^◌, ℕ};
 ghost use Rattle.hz_ops.specs.code.Rows.{row};
 ghost use Rattle.hz_machine.specs.Kept.{world_of};
-ghost use Rattle.hz_machine.specs.Effects.{Follows};
+ghost use Rattle.hz_machine.specs.Effects.{Follows, TakesStep};
 ghost use Rattle.hz_machine.specs.Classes.{class_of};
 ghost use Rattle.hz_machine.specs.declared.rows.dispatch.Class.TheVariants as class;
 
@@ -76,9 +76,9 @@ fn load_row<C: Code>(
     next: u64,
     operands: &[Operand],
     op: Op,
-) -> Result<Act, Memory>
+) -> Act
     requires { class_of op ≡ class.Load }
-    ensures { Follows result frame.new kept.now
+    ensures { TakesStep result frame.new kept.now
         (λ lines. row (C.program code.now) next frame.old (world_of lines kept.now) operands.now op) }
 {
     match op {
@@ -181,11 +181,11 @@ fn operator_row<C: Code>(
         Op::ToNumber => operators::number(kept, frame, next, operands, UnaryOperator::Same),
         Op::Inc => operators::number(kept, frame, next, operands, UnaryOperator::Increment),
         Op::Dec => operators::number(kept, frame, next, operands, UnaryOperator::Decrement),
-        Op::Not => operators::negation(kept, frame, next, operands),
+        Op::Not => Ok(operators::negation(kept, frame, next, operands)),
         Op::Typeof => operators::type_of(kept, frame, next, operands),
         Op::ToText => operators::to_text(kept, frame, next, operands),
         Op::Equal => operators::equality(kept, frame, next, operands),
-        Op::StrictEqual => operators::strict_equality(kept, frame, next, operands),
+        Op::StrictEqual => Ok(operators::strict_equality(kept, frame, next, operands)),
         Op::Less => operators::order(kept, frame, next, operands, Order::Less),
         Op::LessEqual => operators::order(kept, frame, next, operands, Order::LessOrEqual),
         Op::Greater => operators::order(kept, frame, next, operands, Order::Greater),
@@ -201,10 +201,10 @@ fn jump_row<C: Code>(
     next: u64,
     operands: &[Operand],
     op: Op,
-) -> Result<Act, Memory>
+) -> Act
     requires class { class_of op ≡ class.Jump }
     requires place { (frame.old).place < 2 ^ 63 }
-    ensures { Follows result frame.new kept.new
+    ensures { TakesStep result frame.new kept.new
         (λ lines. row (C.program code.now) next frame.old (world_of lines kept.old) operands.now op) }
 {
     match op {
@@ -230,8 +230,8 @@ fn end_row<C: Code>(
         (λ lines. row (C.program code.now) next frame.now (world_of lines kept.now) operands.now op) }
 {
     match op {
-        Op::Return => ends::return_value(kept, frame, operands),
-        Op::Throw => ends::throw_value(kept, frame, operands),
+        Op::Return => Ok(ends::return_value(kept, frame, operands)),
+        Op::Throw => Ok(ends::throw_value(kept, frame, operands)),
         Op::Call => ends::call(kept, frame, operands),
         _ => unreachable!(),
     }
@@ -251,11 +251,11 @@ pub(crate) fn row<C: Code>(
         (λ lines. row (C.program code.now) next frame.old (world_of lines kept.old) operands.now op) }
 {
     match class_of(op) {
-        Class::Load => load_row(kept, frame, code, next, operands, op),
+        Class::Load => Ok(load_row(kept, frame, code, next, operands, op)),
         Class::Name => name_row(kept, frame, code, next, operands, op),
         Class::Number => number_row(kept, frame, code, next, operands, op),
         Class::Operator => operator_row(kept, frame, code, next, operands, op),
-        Class::Jump => jump_row(kept, frame, code, next, operands, op),
+        Class::Jump => Ok(jump_row(kept, frame, code, next, operands, op)),
         Class::End => end_row(kept, frame, code, operands, op),
     }
 }

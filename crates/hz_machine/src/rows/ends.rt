@@ -5,7 +5,7 @@ ghost use Rattle.hz_ops.specs.code.Operands as tested;
 ghost use Rattle.hz_ops.specs.code.Effects.{tested_to, throws};
 ghost use Rattle.hz_ops.specs.code.Rows.{call};
 ghost use Rattle.hz_machine.specs.Kept.{world_of};
-ghost use Rattle.hz_machine.specs.Effects.{Follows};
+ghost use Rattle.hz_machine.specs.Effects.{Follows, TakesStep};
 
 use crate::act::Act;
 use crate::frame::Frame;
@@ -15,26 +15,26 @@ use hz_value::{Memory, Value};
 use std::alloc::Global;
 
 /// Return.
-pub(crate) fn return_value(kept: &Kept, frame: &Frame, operands: &[Operand]) -> Result<Act, Memory>
-    ensures { Follows result frame.now kept.now
+pub(crate) fn return_value(kept: &Kept, frame: &Frame, operands: &[Operand]) -> Act
+    ensures { TakesStep result frame.now kept.now
         (λ lines. tested_to frame.now (world_of lines kept.now) (tested.value (frame.now).registers operands.now)
         (λ v. Does (Return v) frame.now (world_of lines kept.now))) }
 {
     match tested::value(frame.held(), operands) {
-        Some(value) => Ok(Act::Return(value)),
-        None => Ok(Act::Bad),
+        Some(value) => Act::Return(value),
+        None => Act::Bad,
     }
 }
 
 /// Throw.
-pub(crate) fn throw_value(kept: &Kept, frame: &Frame, operands: &[Operand]) -> Result<Act, Memory>
-    ensures { Follows result frame.now kept.now
+pub(crate) fn throw_value(kept: &Kept, frame: &Frame, operands: &[Operand]) -> Act
+    ensures { TakesStep result frame.now kept.now
         (λ lines. tested_to frame.now (world_of lines kept.now) (tested.value (frame.now).registers operands.now)
         (throws frame.now (world_of lines kept.now))) }
 {
     match tested::value(frame.held(), operands) {
-        Some(value) => Ok(Act::Throw(value)),
-        None => Ok(Act::Bad),
+        Some(value) => Act::Throw(value),
+        None => Act::Bad,
     }
 }
 

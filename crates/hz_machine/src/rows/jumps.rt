@@ -6,7 +6,7 @@ ghost use Rattle.hz_ops.specs.code.Effects.{tested_to, jumps};
 ghost use Rattle.hz_ops.specs.code.Rows.{branch_row, jump_is};
 ghost use Rattle.hz_machine.specs.Tests.{test_of};
 ghost use Rattle.hz_machine.specs.Kept.{world_of};
-ghost use Rattle.hz_machine.specs.Effects.{Follows};
+ghost use Rattle.hz_machine.specs.Effects.{TakesStep};
 
 use crate::act::Act;
 use crate::effects;
@@ -14,19 +14,18 @@ use crate::frame::Frame;
 use crate::kept::Kept;
 use hz_operators::{Content, strictly_equal, to_boolean};
 use hz_ops::{Operand, tested};
-use hz_value::Memory;
 
 /// Jump.
-pub(crate) fn jump(kept: &mut Kept, frame: &mut Frame, operands: &[Operand]) -> Result<Act, Memory>
+pub(crate) fn jump(kept: &mut Kept, frame: &mut Frame, operands: &[Operand]) -> Act
     requires { (frame.old).place < 2 ^ 63 }
-    ensures { Follows result frame.new kept.new
+    ensures { TakesStep result frame.new kept.new
         (λ lines. tested_to frame.old (world_of lines kept.old) (tested.way operands.now)
         (jumps frame.old (world_of lines kept.old))) }
 {
     let Some(way) = tested::way(operands) else {
-        return Ok(Act::Bad);
+        return Act::Bad;
     };
-    Ok(effects::jump(kept, frame, way))
+    effects::jump(kept, frame, way)
 }
 
 /// What a jump asks of a value.
@@ -57,32 +56,27 @@ pub(crate) fn branch(
     next: u64,
     operands: &[Operand],
     test: Test,
-) -> Result<Act, Memory>
+) -> Act
     requires { (frame.old).place < 2 ^ 63 }
-    ensures { Follows result frame.new kept.new
+    ensures { TakesStep result frame.new kept.new
         (λ lines. branch_row (test_of test) next frame.old (world_of lines kept.old) operands.now) }
 {
     let Some(o) = tested::branch(frame.held(), operands) else {
-        return Ok(Act::Bad);
+        return Act::Bad;
     };
     let holds = holds(test, &kept.content(o.value));
-    Ok(effects::branch(kept, frame, next, holds, o.way))
+    effects::branch(kept, frame, next, holds, o.way)
 }
 
 /// JumpIs.
-pub(crate) fn jump_is(
-    kept: &mut Kept,
-    frame: &mut Frame,
-    next: u64,
-    operands: &[Operand],
-) -> Result<Act, Memory>
+pub(crate) fn jump_is(kept: &mut Kept, frame: &mut Frame, next: u64, operands: &[Operand]) -> Act
     requires { (frame.old).place < 2 ^ 63 }
-    ensures { Follows result frame.new kept.new
+    ensures { TakesStep result frame.new kept.new
         (λ lines. jump_is next frame.old (world_of lines kept.old) operands.now) }
 {
     let Some(o) = tested::branch_at(frame.held(), operands) else {
-        return Ok(Act::Bad);
+        return Act::Bad;
     };
     let is = strictly_equal(&kept.content(o.value), &Content::Number(o.integer));
-    Ok(effects::branch(kept, frame, next, is, o.way))
+    effects::branch(kept, frame, next, is, o.way)
 }

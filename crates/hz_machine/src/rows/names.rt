@@ -8,7 +8,7 @@ ghost use Rattle.hz_value.specs.world.World.{Line, type_of_global};
 ghost use Rattle.hz_ops.specs.code.Effects.{tested_to, raises, passes, puts_content, gives, gives_value, result_to, changes_globals};
 ghost use Rattle.hz_ops.specs.code.Rows.{text_row, name_row, check_init, store_global};
 ghost use Rattle.hz_machine.specs.Kept.{world_of};
-ghost use Rattle.hz_machine.specs.Effects.{Follows};
+ghost use Rattle.hz_machine.specs.Effects.{Follows, TakesStep};
 ghost use Rattle.hz_machine.specs.Frames.{next_of};
 ghost use Rattle.hz_machine.specs.Known.{IsText, IsGlobal, IsWritable};
 
@@ -100,9 +100,9 @@ pub(crate) fn throw_const<C: Code>(
 
 /// The binding is initialised: its name has to be there.
 fn pass_binding<C: Code>(kept: &Kept, frame: &mut Frame, code: &C, next: u64, name: u64) -> Act
-    ensures { (lines : List Line) → next_of result frame.new (world_of lines kept.now)
-        ≡ tested_to frame.old (world_of lines kept.now) ((C.program code.now).text name)
-        (λ t. passes next frame.old (world_of lines kept.now)) }
+    ensures { TakesStep result frame.new kept.now
+        (λ lines. tested_to frame.old (world_of lines kept.now) ((C.program code.now).text name)
+        (λ t. passes next frame.old (world_of lines kept.now))) }
 {
     if !code.has_string(name) {
         return Act::Bad;

@@ -8,12 +8,12 @@ ghost use Rattle.hz_value.specs.operators.Conversions.{to_boolean, to_text};
 ghost use Rattle.hz_value.specs.world.Store.{content_of, type_name};
 ghost use Rattle.hz_operators.specs.NumberOperators.{numeric, on_number};
 ghost use Rattle.hz_operators.specs.Orders.{by_order};
-ghost use Rattle.hz_operators.specs.Outcomes.{content_of as seen, Means};
+ghost use Rattle.hz_operators.specs.Outcomes.{content_of as seen, MeansText};
 ghost use Rattle.hz_ops.specs.code.Operands as tested;
 ghost use Rattle.hz_ops.specs.code.Effects.{gives, tested_to, puts_content, compared};
 ghost use Rattle.hz_ops.specs.code.Rows.{binary_row, unary_row};
 ghost use Rattle.hz_machine.specs.Kept.{store_of, world_of};
-ghost use Rattle.hz_machine.specs.Effects.{Follows};
+ghost use Rattle.hz_machine.specs.Effects.{Follows, TakesStep};
 
 use crate::act::Act;
 use crate::effects::{give_boolean, give_number, give_sum, give_text};
@@ -21,7 +21,7 @@ use crate::frame::Frame;
 use crate::kept::Kept;
 use crate::rows::names::put_name;
 use hz_operators::{
-    Content, Halt, NumberOperator, Order, UnaryOperator, on_number, on_numbers, push_text,
+    Content, NumberOperator, Order, TextHalt, UnaryOperator, on_number, on_numbers, push_text,
     to_boolean,
 };
 use hz_ops::{Held, Operand, tested};
@@ -167,17 +167,17 @@ pub(crate) fn strict_equality(
     frame: &mut Frame,
     next: u64,
     operands: &[Operand],
-) -> Result<Act, Memory>
-    ensures { Follows result frame.new kept.now
+) -> Act
+    ensures { TakesStep result frame.new kept.now
         (λ lines. binary_row (λ u v. Gives (Boolean (strictly_equal u v))) next frame.old (world_of lines kept.now)
         operands.now) }
 {
     let Some(o) = tested::from_two(frame.held(), operands) else {
-        return Ok(Act::Bad);
+        return Act::Bad;
     };
     let equal = hz_operators::strictly_equal(&kept.content(o.left), &kept.content(o.right));
     frame.put(next, o.to, Held::Value(Value::Bool(equal)));
-    Ok(Act::Go)
+    Act::Go
 }
 
 /// An operator on one value that becomes a number.
@@ -213,22 +213,17 @@ pub(crate) fn number(
 }
 
 /// Not.
-pub(crate) fn negation(
-    kept: &Kept,
-    frame: &mut Frame,
-    next: u64,
-    operands: &[Operand],
-) -> Result<Act, Memory>
-    ensures { Follows result frame.new kept.now
+pub(crate) fn negation(kept: &Kept, frame: &mut Frame, next: u64, operands: &[Operand]) -> Act
+    ensures { TakesStep result frame.new kept.now
         (λ lines. unary_row (λ u. Gives (Boolean (not (to_boolean u)))) next frame.old (world_of lines kept.now)
         operands.now) }
 {
     let Some(o) = tested::from_one(frame.held(), operands) else {
-        return Ok(Act::Bad);
+        return Act::Bad;
     };
     let holds = to_boolean(&kept.content(o.value));
     frame.put(next, o.to, Held::Value(Value::Bool(!holds)));
-    Ok(Act::Go)
+    Act::Go
 }
 
 /// Typeof.
@@ -251,8 +246,8 @@ pub(crate) fn type_of(
 }
 
 /// The text of a value.
-fn text_of(alloc: Global, content: &Content<'_>) -> Result<Vec<u16>, Halt>
-    ensures { Means (λ t. t.items) result (to_text (seen content.now)) }
+fn text_of(alloc: Global, content: &Content<'_>) -> Result<Vec<u16>, TextHalt>
+    ensures { MeansText (λ t. t.items) result (to_text (seen content.now)) }
 {
     let mut text = Vec::new(alloc);
     push_text(alloc, &mut text, content)?;

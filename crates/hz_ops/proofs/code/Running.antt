@@ -12,7 +12,7 @@ use Rattle.hz_ops.specs.declared.op.Operand.TheVariants.{Register, Text, Int, Ju
 use Rattle.hz_ops.specs.declared.instr.Instr.{Instr}
 use Rattle.hz_ops.specs.Coding.{spellings, shortest_of}
 use Rattle.hz_ops.specs.code.Activations.{Program, Activation}
-use Rattle.hz_ops.specs.code.Bytes.{program_of}
+use Rattle.hz_ops.specs.code.Bytes.{program_of, script_module}
 use Rattle.hz_ops.specs.code.Steps.{code_meaning, code_start}
 
 -- ---- code
@@ -53,7 +53,7 @@ abbrev pub texts : List (List ℕ)
 texts = codes "print" ∷ codes "x" ∷ codes "12" ∷ []
 
 abbrev pub script_of : List ℕ → Program
-script_of code = program_of (record { functions = record { code = code; registers = 6 } ∷ []; texts = texts })
+script_of code = program_of (script_module code 6 [] texts)
 
 -- ---- runs
 

@@ -1,5 +1,6 @@
 -- Activations of code.
-use Rattle.std.specs.Prelude.{ℕ, List, [], Option, Some, None, replicate, slice_set}
+use Rattle.std.specs.Prelude.{ℕ, Bool, List, [], Option, Some, None, replicate, slice_set}
+use Rattle.hz_tree.specs.declared.tree.FunctionKind.{FunctionKind}
 use Rattle.hz_value.specs.declared.values.Value.{Value}
 use Rattle.hz_value.specs.declared.values.Value.TheVariants as value
 use Rattle.hz_value.specs.system.Acts.{Reply}
@@ -8,12 +9,19 @@ use Rattle.hz_ops.specs.declared.instr.Instr.{Instr}
 use Rattle.hz_ops.specs.declared.held.Held.{Held}
 use Rattle.hz_ops.specs.declared.held.Held.TheVariants as held
 
--- the code of a source: the instruction at a place of a function, with its length in bytes, None where no whole
--- instruction stands; how many registers a function has; the text with a number, as its UTF-16 units. The script is
--- function 0
+-- The code of a source. Its functions have the numbers below `count`; function 0 is the script. `length` is what the
+-- function's property of this name says. A function that has no code yet is a stub. `registers` is how many registers
+-- it has, `fetch` the instruction at a place, with its length in bytes, and `handler` the place at which a throw at a
+-- place is caught; None in a stub, where no whole instruction stands, and where no handler holds that place. `text` is
+-- the text with a number, as its UTF-16 units
 pub record Program : Type 0 where
-  pub fetch : (function place : ℕ) → Option (Instr × ℕ)
+  pub count : ℕ
+  pub kind : (function : ℕ) → FunctionKind
+  pub length : (function : ℕ) → ℕ
+  pub has_code : (function : ℕ) → Bool
   pub registers : (function : ℕ) → ℕ
+  pub fetch : (function place : ℕ) → Option (Instr × ℕ)
+  pub handler : (function place : ℕ) → Option ℕ
   pub text : (number : ℕ) → Option (List ℕ)
 
 -- a function that runs: the place of the instruction in hand, in bytes, and what its registers hold. `environment` is

@@ -6,5 +6,5 @@ use Rattle.hz_machine.proofs.effects.give_number.Goals as goal
 
 pub returns-in-Err : goal.returns-in-Err
 returns-in-Err c = λ found means.
-    given c.in-Err.cause c.args.kept.now c.stop.new.kept c.stop.result found c.args.next c.args.to c.args.frame.now
+    given c.args.kept.now c.stop.new.kept c.in-Err.cause c.stop.result found c.args.next c.args.to c.args.frame.now
     (subst (λ r. Means Number r found) c.in-Err.is means) c.stop.ensures

@@ -1,10 +1,10 @@
 use Rattle.std.proofs.Common.{subst}
 use Rattle.hz_operators.specs.Sums.{sum_content}
-use Rattle.hz_operators.specs.Outcomes.{Means}
-use Rattle.hz_machine.proofs.Stopping.{given}
+use Rattle.hz_operators.specs.Outcomes.{MeansText}
+use Rattle.hz_machine.proofs.Stopping.{given_text}
 use Rattle.hz_machine.proofs.effects.give_sum.Goals as goal
 
 pub returns-in-Err : goal.returns-in-Err
 returns-in-Err c = λ found means.
-    given c.in-Err.cause c.args.kept.now c.stop.new.kept c.stop.result found c.args.next c.args.to c.args.frame.now
-    (subst (λ r. Means (λ number. sum_content number c.args.text.items) r found) c.in-Err.is means) c.stop.ensures
+    given_text c.args.kept.now c.stop_text.new.kept c.in-Err.cause c.stop_text.result found c.args.next c.args.to c.args.frame.now
+    (subst (λ r. MeansText (λ number. sum_content number c.args.text.items) r found) c.in-Err.is means) c.stop_text.ensures
