@@ -1,6 +1,5 @@
 -- The rows of functions: in the tree that such a row makes stands one function more than in its parts.
-use Rattle.std.proofs.Common.{◌≡◌, Bool, true, false, List, [], ◌∷◌, ◌++◌}
-use Rattle.std.proofs.Common.{refl, ◌∙◌}
+use Rattle.std.proofs.Common.{◌≡◌, Bool, true, false, ◌&&◌, List, [], ◌∷◌, ◌++◌, refl, ap, ◌∙◌}
 use Rattle.hz_tree.specs.declared.class.Class.{Class}
 use Rattle.hz_tree.specs.declared.class.Class.TheVariants as k
 use Rattle.hz_tree.specs.declared.look.Look.{Look}
@@ -31,9 +30,10 @@ use Rattle.hz_stands.specs.Nodes.{value_nodes, part_nodes}
 use Rattle.hz_stands.specs.Stands.{Shape, Given, declared, expressed, arrowed, method, getter, setter, written}
 use Rattle.hz_stands.proofs.TreeNodes.{nodes_out}
 use Rattle.hz_stands.proofs.Made.{row_laws, made_laws}
-use Rattle.hz_stands.proofs.Several.{untold_parts, untold_read}
+use Rattle.hz_stands.proofs.Several.{untold, untold_parts, untold_read}
 use Rattle.hz_stands.proofs.Ends.{Ends}
-use Rattle.hz_stands.proofs.Opening.{Sides, side, from_open, opened, own_parts, closed, function_by, Opening}
+use Rattle.hz_stands.proofs.Opening.{Sides, side, from_open, opened, own_parts, closed, function_by, opens_once}
+use Rattle.hz_stands.proofs.Opening.{arrow_begins, Opening}
 
 -- the symbols of a function that begins with `head`, and one symbol behind it
 abbrev function_sides : NodeKind → FunctionKind → (head inner : List Symbol) → (last : Symbol) → Sides
@@ -57,10 +57,22 @@ abbrev arrow_own : (c : Context) → (parenthesised : Bool) → List Symbol
 arrow_own c parenthesised =
     arrow_parameters parenthesised ∷ Read n.ArrowSign ∷ Read (n.ArrowBody c) ∷ Tell tell.Join ∷ []
 
-abbrev GivenRead : (x : Sides) → (shape : Shape) → (Parts Value x.own → Parts Value (written shape).symbols) → Type 0
-GivenRead x shape given =
-    (ts rest : List Terminal) (q : Parts Value x.own) → read_all reads x.own ts ≡ Got q rest
-    → read_all reads (written shape).symbols ts ≡ Got (given q) rest
+-- the same parts without what is told: they are read alike, and the same functions stand in them
+pub record GivenBy (own symbols : List Symbol) : Type 0 where
+  pub given : Parts Value own → Parts Value symbols
+  pub read : (ts rest : List Terminal) (q : Parts Value own) → read_all reads own ts ≡ Got q rest
+      → read_all reads symbols ts ≡ Got (given q) rest
+  pub within : (q : Parts Value own) → part_nodes own q ≡ part_nodes symbols (given q)
+
+untold_nodes : (right : List Symbol) (p : Parts Value right)
+    → part_nodes right p ≡ part_nodes (untold right) (untold_parts right p)
+untold_nodes [] p = refl
+untold_nodes (Take wanted ∷ more) p = untold_nodes more p.1
+untold_nodes (Read m ∷ more) p = ap (λ fs. value_nodes m p.0 ++ fs) (untold_nodes more p.1)
+untold_nodes (Tell signal ∷ more) p = untold_nodes more p.1
+
+abbrev untold_given : (right : List Symbol) → GivenBy right (untold right)
+untold_given right = record { given = untold_parts right; read = untold_read right; within = untold_nodes right }
 
 abbrev Opens : (m : Nonterminal) → (x : Sides) → Shape → (Parts Value (side x) → Value m) →
     (Parts Value (side x) → FunctionForm) → (Parts Value x.own → Given) → Type 0
@@ -70,17 +82,20 @@ Opens m x shape make form given =
     ++ function_by (opened x p) (closed x p) (form p) shape (given (own_parts x p)) ∷ part_nodes x.own (own_parts x p)
 
 pub opening : (m : Nonterminal) (x : Sides) (shape : Shape) (form : Parts Value (side x) → FunctionForm)
-    {make : Parts Value (side x) → Value m} (given : Parts Value x.own → Parts Value (written shape).symbols)
-    → GivenRead x shape given → Opens m x shape make form (λ q. (written shape).given (given q))
+    {make : Parts Value (side x) → Value m} (g : GivenBy x.own (written shape).symbols)
+    → (opens_once x && arrow_begins m x.lead shape) ≡ true
+    → Opens m x shape make form (λ q. (written shape).given (g.given q))
     → Opening m (goes (side x) make)
-opening m x shape form {make = make} given read nodes = record {
+opening m x shape form {make = make} g here nodes = record {
   sides = x;
   shape = shape;
   make = make;
   same = refl;
   form = form;
-  given = given;
-  given_read = read;
+  given = g.given;
+  given_read = g.read;
+  within = g.within;
+  opens_here = here;
   nodes = nodes;
 }
 
@@ -117,53 +132,53 @@ plain_method_sides = function_sides node.Part kind.Method [] (usual false) (Tell
 plain_declaration : (c : Context) → Opening (n.Item c) (declaration_row c k.Name)
 plain_declaration c =
     opening (n.Item c) (declaration_sides false) (declared false) (λ p. form.Declaration p.1.1.0)
-    (untold_parts (declaration_sides false).own) (untold_read (declaration_sides false).own) (λ p. simp row_laws)
+    (untold_given (declaration_sides false).own) refl (λ p. simp row_laws)
 
 pub declaration_nodes : (c : Context) (two : Class) → Opening (n.Item c) (declaration_row c two)
 declaration_nodes c k.Star =
     opening (n.Item c) (declaration_sides true) (declared true) (λ p. form.Declaration p.1.1.1.0)
-    (untold_parts (declaration_sides true).own) (untold_read (declaration_sides true).own) (λ p. simp row_laws)
+    (untold_given (declaration_sides true).own) refl (λ p. simp row_laws)
 declaration_nodes c _ = plain_declaration c
 
 plain_expression : (c : Context) → Opening (n.Primary c) (function_expression_row c k.Name)
 plain_expression c =
     opening (n.Primary c) (expression_sides false) (expressed false) (λ p. form.Expression p.1.1.0)
-    (untold_parts (expression_sides false).own) (untold_read (expression_sides false).own) (λ p. simp row_laws)
+    (untold_given (expression_sides false).own) refl (λ p. simp row_laws)
 
 pub expression_nodes : (c : Context) (two : Class) → Opening (n.Primary c) (function_expression_row c two)
 expression_nodes c k.Star =
     opening (n.Primary c) (expression_sides true) (expressed true) (λ p. form.Expression p.1.1.1.0)
-    (untold_parts (expression_sides true).own) (untold_read (expression_sides true).own) (λ p. simp row_laws)
+    (untold_given (expression_sides true).own) refl (λ p. simp row_laws)
 expression_nodes c _ = plain_expression c
 
 pub arrow_nodes : (loosest : Level) (c : Context) (parenthesised : Bool)
     → Opening (n.Operation loosest c) (arrow_row loosest c parenthesised)
 arrow_nodes loosest c true =
     opening (n.Operation loosest c) (arrow_sides c true) (arrowed c true) (λ p. form.Arrow)
-    (untold_parts (arrow_sides c true).own) (untold_read (arrow_sides c true).own) (λ p. simp row_laws)
+    (untold_given (arrow_sides c true).own) refl (λ p. simp row_laws)
 arrow_nodes loosest c false =
     opening (n.Operation loosest c) (arrow_sides c false) (arrowed c false) (λ p. form.Arrow)
-    (untold_parts (arrow_sides c false).own) (untold_read (arrow_sides c false).own) (λ p. simp row_laws)
+    (untold_given (arrow_sides c false).own) refl (λ p. simp row_laws)
 
 pub getter_nodes : (c : Context) (l : Look) → Opening (n.Prop c) (getter_row c l true)
 getter_nodes c l =
-    opening (n.Prop c) (getter_sides c) getter (λ p. form.Method) (untold_parts (getter_sides c).own)
-    (untold_read (getter_sides c).own) (λ p. nodes_out _ ∙ simp made_laws)
+    opening (n.Prop c) (getter_sides c) getter (λ p. form.Method) (untold_given (getter_sides c).own) refl
+    (λ p. nodes_out _ ∙ simp made_laws)
 
 pub setter_nodes : (c : Context) (l : Look) → Opening (n.Prop c) (setter_row c l true)
 setter_nodes c l =
-    opening (n.Prop c) (setter_sides c) setter (λ p. form.Method) (untold_parts (setter_sides c).own)
-    (untold_read (setter_sides c).own) (λ p. nodes_out _ ∙ simp made_laws)
+    opening (n.Prop c) (setter_sides c) setter (λ p. form.Method) (untold_given (setter_sides c).own) refl
+    (λ p. nodes_out _ ∙ simp made_laws)
 
 pub generator_nodes : (c : Context) (l : Look) → Opening (n.Prop c) (prop_by c l k.Star)
 generator_nodes c l =
-    opening (n.Prop c) (generator_sides c) (method true) (λ p. form.Method) (untold_parts (generator_sides c).own)
-    (untold_read (generator_sides c).own) (λ p. nodes_out _ ∙ simp made_laws)
+    opening (n.Prop c) (generator_sides c) (method true) (λ p. form.Method) (untold_given (generator_sides c).own) refl
+    (λ p. nodes_out _ ∙ simp made_laws)
 
 pub method_nodes : (c : Context) (l : Look) → Opening (n.KeyRest c) (key_rest_by c l k.LeftParen)
 method_nodes c l =
-    opening (n.KeyRest c) plain_method_sides (method false) (λ p. form.Method) (untold_parts plain_method_sides.own)
-    (untold_read plain_method_sides.own) (λ p. simp row_laws)
+    opening (n.KeyRest c) plain_method_sides (method false) (λ p. form.Method)
+    (untold_given plain_method_sides.own) refl (λ p. simp row_laws)
 
 -- ---- where these functions end
 

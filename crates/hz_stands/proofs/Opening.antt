@@ -1,6 +1,7 @@
 -- The row of a function: where tokens are read by it, the function stands among them.
-use Rattle.std.proofs.Common.{◌≡◌, List, ◌∷◌, ◌++◌, refl, ap, sym, ◌∙◌}
+use Rattle.std.proofs.Common.{◌≡◌, Bool, true, false, not, ◌&&◌, List, [], ◌∷◌, ◌++◌, refl, ap, sym, ◌∙◌}
 use Rattle.hz_tree.specs.declared.nonterminal.Nonterminal.{Nonterminal}
+use Rattle.hz_tree.specs.declared.nonterminal.Nonterminal.TheVariants as n
 use Rattle.hz_tree.specs.declared.signal.Signal.{Signal}
 use Rattle.hz_tree.specs.declared.signal.Signal.TheVariants as tell
 use Rattle.hz_tree.specs.declared.symbol.Symbol.{Symbol}
@@ -11,9 +12,11 @@ use Rattle.hz_tree.specs.grammar.Signals.{Told}
 use Rattle.hz_tree.specs.grammar.Symbols.{Parts, Value, Row, goes}
 use Rattle.hz_tree.specs.reading.Reading.{Got, read_all, reads, told_ahead}
 use Rattle.hz_laws.proofs.Balance.{got_rest}
+use Rattle.hz_laws.proofs.Ranks.{opens}
+use Rattle.hz_cuts.specs.Rows.{is_close, some_symbol, all_plain}
 use Rattle.hz_cuts.specs.Skips.{front_parts}
 use Rattle.hz_stands.specs.Nodes.{FunctionNode, value_nodes, part_nodes}
-use Rattle.hz_stands.specs.Stands.{Shape, Given, written, Standing}
+use Rattle.hz_stands.specs.Stands.{Shape, arrowed, Given, written, Standing}
 use Rattle.hz_stands.proofs.Several.{value_of, back_parts, Cons, cons_got, Split}
 use Rattle.hz_stands.proofs.Several.{split_read, Suffix, all_suffix}
 
@@ -57,6 +60,26 @@ function_by opened closed form shape given = record {
   body = given.body;
 }
 
+-- ---- what opens, and where
+
+abbrev pub is_open : Symbol → Bool
+is_open (s.Tell signal) = opens signal
+is_open _ = false
+
+-- one function opens, and it closes behind its own symbols; behind that nothing is read
+abbrev pub opens_once : Sides → Bool
+opens_once x =
+    not (some_symbol is_open x.lead) && (opens x.signal && (not (some_symbol is_close x.own) && all_plain x.back))
+
+abbrev pub begins_operation : Nonterminal → (lead : List Symbol) → Bool
+begins_operation (n.Operation loosest c) [] = true
+begins_operation m lead = false
+
+-- an arrow is an operation of its own
+abbrev pub arrow_begins : Nonterminal → (lead : List Symbol) → Shape → Bool
+arrow_begins m lead (arrowed c parenthesised) = begins_operation m lead
+arrow_begins m lead shape = true
+
 -- the row makes a tree with the function, behind those of its lead and before those in it
 pub record Opening (m : Nonterminal) (r : Row m) : Type 0 where
   pub sides : Sides
@@ -67,6 +90,8 @@ pub record Opening (m : Nonterminal) (r : Row m) : Type 0 where
   pub given : Parts Value sides.own → Parts Value (written shape).symbols
   pub given_read : (ts rest : List Terminal) (q : Parts Value sides.own) → read_all reads sides.own ts ≡ Got q rest
       → read_all reads (written shape).symbols ts ≡ Got (given q) rest
+  pub within : (q : Parts Value sides.own) → part_nodes sides.own q ≡ part_nodes (written shape).symbols (given q)
+  pub opens_here : (opens_once sides && arrow_begins m sides.lead shape) ≡ true
   pub nodes : (p : Parts Value (side sides)) → value_nodes m (make p)
       ≡ part_nodes sides.lead (front_parts sides.lead (from_open sides) p)
       ++ function_by (opened sides p) (closed sides p) (form p) shape
