@@ -15,7 +15,8 @@ use Rattle.hz_tree.specs.grammar.Look.{Terminal, look, stuck}
 use Rattle.hz_tree.specs.grammar.Signals.{Told}
 use Rattle.hz_tree.specs.grammar.StatementRows.{bound_by}
 use Rattle.hz_tree.specs.grammar.Symbols.{Parts, Value, Row, goes, refuses}
-use Rattle.hz_tree.specs.reading.Reading.{Reading, Got, Stuck, Deeper, and_then, takes, read_all, by_row, reads}
+use Rattle.hz_tree.specs.reading.Reading.{Reading, Got, Stuck, Deeper, and_then, takes, Reader, read_all, by_row}
+use Rattle.hz_tree.specs.reading.Reading.{reads}
 use Rattle.hz_tree.specs.reading.Reading.{told_ahead}
 use Rattle.hz_laws.proofs.Balance.{Then, then_got, got_rest}
 use Rattle.hz_laws.proofs.ReadingLaws.{reads_law}
@@ -24,15 +25,10 @@ use Rattle.hz_alone.specs.Middle.{begun, opens, SameBehind}
 got_value : {A : Type 0} (v w : A) (ts us : List Terminal) → Got v ts ≡ Got w us → v ≡ w
 got_value v w ts us h = cc
 
-abbrev first_of : Terminal → Terminal
+abbrev pub first_of : Terminal → Terminal
 first_of x = record x { token = record x.token { newline = false }; behind = x.token.at }
 
 -- ---- a token is taken first
-
-pub record Begins (right : List Symbol) (parts : Parts Value right) (left seen : List Terminal) : Type 0 where
-  pub others : Parts Value right
-  pub read : read_all reads right seen ≡ Got others left
-  pub same : SameBehind right parts others
 
 took : (wanted : Class) (x : Terminal) (rest : List Terminal) (v : Terminal) (mid : List Terminal)
     → takes wanted (x ∷ rest) ≡ Got v mid → takes wanted (first_of x ∷ rest) ≡ Got (first_of x) mid
@@ -42,40 +38,47 @@ took wanted x rest v mid h =
     → (if b then Got (first_of x) rest else Stuck (stuck (look (first_of x ∷ rest))) (first_of x ∷ rest))
     ≡ Got (first_of x) mid) [ true ↦ λ e. cc | false ↦ λ e. cc ] h
 
-abbrev got_with : (wanted : Class) → (more : List Symbol) → Terminal → Parts Value more → List Terminal
-    → Reading (Parts Value (s.Take wanted ∷ more))
-got_with wanted more x vs left = Got (x, vs) left
+module _ {V : Nonterminal → Type 0} (trees : Reader V) where
+  abbrev got_with : (wanted : Class) → (more : List Symbol) → Terminal → Parts V more → List Terminal
+      → Reading (Parts V (s.Take wanted ∷ more))
+  got_with wanted more x vs left = Got (x, vs) left
 
-got_others : (wanted : Class) (more : List Symbol) (x y : Terminal) (r : Reading (Parts Value more))
-    (parts : Parts Value (s.Take wanted ∷ more)) (left : List Terminal)
-    → and_then {B = Parts Value (s.Take wanted ∷ more)} r (λ vs end. Got (x, vs) end) ≡ Got parts left
-    → and_then {B = Parts Value (s.Take wanted ∷ more)} r (λ vs end. Got (y, vs) end) ≡ Got (y, parts.1) left
-got_others wanted more x y (Got vs end) parts left h =
-    ap {A = Parts Value (s.Take wanted ∷ more)} (λ q. got_with wanted more y q.1 end)
-    (got_value {A = Parts Value (s.Take wanted ∷ more)} (x, vs) parts end left h)
-    ∙ ap (got_with wanted more y parts.1) (got_rest {A = Parts Value (s.Take wanted ∷ more)} (x, vs) parts end left h)
-got_others wanted more x y (Stuck cause ts) parts left h = cc
-got_others wanted more x y Deeper parts left h = cc
+  got_others : (wanted : Class) (more : List Symbol) (x y : Terminal) (r : Reading (Parts V more))
+      (parts : Parts V (s.Take wanted ∷ more)) (left : List Terminal)
+      → and_then {B = Parts V (s.Take wanted ∷ more)} r (λ vs end. Got (x, vs) end) ≡ Got parts left
+      → and_then {B = Parts V (s.Take wanted ∷ more)} r (λ vs end. Got (y, vs) end) ≡ Got (y, parts.1) left
+  got_others wanted more x y (Got vs end) parts left h =
+      ap {A = Parts V (s.Take wanted ∷ more)} (λ q. got_with wanted more y q.1 end)
+      (got_value {A = Parts V (s.Take wanted ∷ more)} (x, vs) parts end left h)
+      ∙ ap (got_with wanted more y parts.1) (got_rest {A = Parts V (s.Take wanted ∷ more)} (x, vs) parts end left h)
+  got_others wanted more x y (Stuck cause ts) parts left h = cc
+  got_others wanted more x y Deeper parts left h = cc
 
-take_begins : (wanted : Class) (more : List Symbol) (x : Terminal) (rest left : List Terminal)
-    (parts : Parts Value (s.Take wanted ∷ more)) → read_all reads (s.Take wanted ∷ more) (x ∷ rest) ≡ Got parts left
-    → Begins (s.Take wanted ∷ more) parts left (begun (x ∷ rest))
-take_begins wanted more x rest left parts h =
-    let one : Then (takes wanted (x ∷ rest)) (λ v mid.
-    and_then (read_all reads more mid) (λ vs end. Got (v, vs) end)) parts left =
-    then_got (takes wanted (x ∷ rest)) _ parts left h in
-    (record {
-      others = (first_of x, parts.1);
-      read =
-          ap (λ r. and_then r (λ v mid. and_then (read_all reads more mid) (λ vs end. Got (v, vs) end)))
-          (took wanted x rest one.first one.mid one.got)
-          ∙ got_others wanted more one.first (first_of x) (read_all reads more one.mid) parts left one.goes_on;
-      same = refl;
-    })
+  pub take_begins : (wanted : Class) (more : List Symbol) (x : Terminal) (rest left : List Terminal)
+      (parts : Parts V (s.Take wanted ∷ more)) → read_all trees (s.Take wanted ∷ more) (x ∷ rest) ≡ Got parts left
+      → read_all trees (s.Take wanted ∷ more) (begun (x ∷ rest)) ≡ Got (first_of x, parts.1) left
+  take_begins wanted more x rest left parts h =
+      let one : Then (takes wanted (x ∷ rest)) (λ v mid.
+      and_then (read_all trees more mid) (λ vs end. Got (v, vs) end)) parts left =
+      then_got (takes wanted (x ∷ rest)) _ parts left h in
+      ap (λ r. and_then r (λ v mid. and_then (read_all trees more mid) (λ vs end. Got (v, vs) end)))
+      (took wanted x rest one.first one.mid one.got)
+      ∙ got_others wanted more one.first (first_of x) (read_all trees more one.mid) parts left one.goes_on
+
+  pub tree_begins : (m : Nonterminal) (more : List Symbol) (x : Terminal) (rest left : List Terminal)
+      (parts : Parts V (s.Read m ∷ more))
+      → ((v : V m) (mid : List Terminal) → trees m (x ∷ rest) ≡ Got v mid → trees m (begun (x ∷ rest)) ≡ Got v mid)
+      → read_all trees (s.Read m ∷ more) (x ∷ rest) ≡ Got parts left
+      → read_all trees (s.Read m ∷ more) (begun (x ∷ rest)) ≡ Got parts left
+  tree_begins m more x rest left parts begins h =
+      let one : Then (trees m (x ∷ rest)) (λ v mid. and_then (read_all trees more mid) (λ vs end. Got (v, vs) end))
+      parts left = then_got (trees m (x ∷ rest)) _ parts left h in
+      ap (λ r. and_then r (λ v mid. and_then (read_all trees more mid) (λ vs end. Got (v, vs) end)))
+      (begins one.first one.mid one.got) ∙ one.goes_on
 
 -- ---- parameters
 
-abbrev params : List Symbol
+abbrev pub params : List Symbol
 params = s.Take k.LeftParen ∷ s.Read n.Parameters ∷ s.Take k.RightParen ∷ []
 
 params_begin : (x : Terminal) (rest left : List Terminal) (v : Value n.Params)
@@ -84,15 +87,14 @@ params_begin x rest left v h =
     let all : Then (read_all reads params (x ∷ rest)) (λ vs end. Got vs.1.0 end) v left =
     then_got (read_all reads params (x ∷ rest)) (λ vs end. Got vs.1.0 end) v left
     (sym (reads_law n.Params (x ∷ rest)) ∙ h) in
-    let b : Begins params all.first all.mid (begun (x ∷ rest)) =
-    take_begins k.LeftParen (s.Read n.Parameters ∷ s.Take k.RightParen ∷ []) x rest all.mid all.first all.got in
     reads_law n.Params (begun (x ∷ rest))
-    ∙ ap (λ r. and_then r (λ vs end. Got vs.1.0 end)) b.read
-    ∙ ap (λ more. Got more.0 all.mid) (sym b.same) ∙ all.goes_on
+    ∙ ap (λ r. and_then r (λ vs end. Got vs.1.0 end))
+    (take_begins reads k.LeftParen (s.Read n.Parameters ∷ s.Take k.RightParen ∷ []) x rest all.mid all.first all.got)
+    ∙ all.goes_on
 
 -- ---- a name
 
-look_one : (x : Terminal) (ts : List Terminal) → (look (x ∷ ts)).one ≡ x.class
+pub look_one : (x : Terminal) (ts : List Terminal) → (look (x ∷ ts)).one ≡ x.class
 look_one x [] = refl
 look_one x (y ∷ ts) = refl
 
@@ -117,12 +119,11 @@ named_begins true role l l' x rest left v h =
     let others : Then (read_all reads (s.Take k.Name ∷ []) (x ∷ rest)) (λ vs end.
     Got (told_ahead (x ∷ rest), vs) end) whole.first whole.mid =
     then_got (read_all reads (s.Take k.Name ∷ []) (x ∷ rest)) _ whole.first whole.mid whole.got in
-    let b : Begins (s.Take k.Name ∷ []) others.first others.mid (begun (x ∷ rest)) =
-    take_begins k.Name [] x rest others.mid others.first others.got in
     let told : told_ahead (x ∷ rest) ≡ whole.first.0 =
     ap (λ p. p.0) (got_value (told_ahead (x ∷ rest), others.first) whole.first others.mid whole.mid others.goes_on) in
     ap (λ r. and_then {A = Parts Value (s.Tell (tell.Declare role) ∷ s.Take k.Name ∷ [])}
-    (and_then r (λ vs end. Got (told_ahead (begun (x ∷ rest)), vs) end)) (λ vs end. got_bound vs.0 end)) b.read
+    (and_then r (λ vs end. Got (told_ahead (begun (x ∷ rest)), vs) end)) (λ vs end. got_bound vs.0 end))
+    (take_begins reads k.Name [] x rest others.mid others.first others.got)
     ∙ ap (λ t. got_bound t others.mid) told
     ∙ ap (got_bound whole.first.0)
     (got_rest (told_ahead (x ∷ rest), others.first) whole.first others.mid whole.mid others.goes_on)
@@ -151,28 +152,24 @@ bound_begins role x rest left v h =
 
 -- ---- several symbols
 
-tree_begins : (m : Nonterminal) (more : List Symbol) (x : Terminal) (rest left : List Terminal)
-    (parts : Parts Value (s.Read m ∷ more))
-    → ((v : Value m) (mid : List Terminal) → reads m (x ∷ rest) ≡ Got v mid → reads m (begun (x ∷ rest)) ≡ Got v mid)
-    → read_all reads (s.Read m ∷ more) (x ∷ rest) ≡ Got parts left
-    → Begins (s.Read m ∷ more) parts left (begun (x ∷ rest))
-tree_begins m more x rest left parts begins h =
-    let one : Then (reads m (x ∷ rest)) (λ v mid. and_then (read_all reads more mid) (λ vs end. Got (v, vs) end))
-    parts left = then_got (reads m (x ∷ rest)) _ parts left h in
-    (record {
-      others = parts;
-      read =
-          ap (λ r. and_then r (λ v mid. and_then (read_all reads more mid) (λ vs end. Got (v, vs) end)))
-          (begins one.first one.mid one.got) ∙ one.goes_on;
-      same = refl;
-    })
+pub record Begins (right : List Symbol) (parts : Parts Value right) (left seen : List Terminal) : Type 0 where
+  pub others : Parts Value right
+  pub read : read_all reads right seen ≡ Got others left
+  pub same : SameBehind right parts others
 
 pub symbols_begin : (right : List Symbol) (x : Terminal) (rest left : List Terminal) (parts : Parts Value right)
     → opens right ≡ true → read_all reads right (x ∷ rest) ≡ Got parts left
     → Begins right parts left (begun (x ∷ rest))
-symbols_begin (s.Take wanted ∷ more) x rest left parts o h = take_begins wanted more x rest left parts h
-symbols_begin (s.Read n.Params ∷ more) x rest left parts o h =
-    tree_begins n.Params more x rest left parts (λ v mid got. params_begin x rest mid v got) h
-symbols_begin (s.Read (n.Bound role) ∷ more) x rest left parts o h =
-    tree_begins (n.Bound role) more x rest left parts (λ v mid got. bound_begins role x rest mid v got) h
+symbols_begin (s.Take wanted ∷ more) x rest left parts o h =
+    record { others = (first_of x, parts.1); read = take_begins reads wanted more x rest left parts h; same = refl }
+symbols_begin (s.Read n.Params ∷ more) x rest left parts o h = record {
+  others = parts;
+  read = tree_begins reads n.Params more x rest left parts (λ v mid got. params_begin x rest mid v got) h;
+  same = refl;
+}
+symbols_begin (s.Read (n.Bound role) ∷ more) x rest left parts o h = record {
+  others = parts;
+  read = tree_begins reads (n.Bound role) more x rest left parts (λ v mid got. bound_begins role x rest mid v got) h;
+  same = refl;
+}
 symbols_begin _ x rest left parts o h = cc

@@ -22,7 +22,7 @@ use Rattle.hz_tree.specs.grammar.Classes.{is_name, is_of, is_colon, is_word, beg
 use Rattle.hz_tree.specs.grammar.Look.{is_async, begins_arrow}
 use Rattle.hz_tree.specs.grammar.Operators.{assign_operator, binary_operator, unary_operator, update_operator}
 use Rattle.hz_tree.specs.grammar.Signals.{Told}
-use Rattle.hz_tree.specs.grammar.Symbols.{Parts, Value, Row, goes, refuses}
+use Rattle.hz_tree.specs.grammar.Symbols.{Parts, Value, Row, RowOf, goes, refuses}
 use Rattle.hz_tree.specs.grammar.ExpressionRows.{expr_end}
 use Rattle.hz_tree.specs.grammar.HeadRows.{is_no_left, head_by}
 use Rattle.hz_tree.specs.grammar.OperatorRows.{reads_on, operator_row, rest_row, rests_row, arrow_row, operand_row}
@@ -39,16 +39,19 @@ abbrev pub blurred : (eats : Bool) → Told → Told
 blurred true told = told
 blurred false told = record told { text = [] }
 
--- the same parts, without the text of a token that stands behind all that is taken
-abbrev pub blur : (right : List Symbol) → Parts Value right → Parts Value right
-blur [] parts = parts
-blur (s.Take wanted ∷ more) parts = (parts.0, blur more parts.1)
-blur (s.Read m ∷ more) parts = (parts.0, blur more parts.1)
-blur (s.Tell signal ∷ more) parts = (blurred (eats_all more) parts.0, blur more parts.1)
+-- the same parts, without the text of a token that stands behind all that is taken, whatever the nonterminals give
+abbrev pub blur : (V : Nonterminal → Type 0) → (right : List Symbol) → Parts V right → Parts V right
+blur V [] parts = parts
+blur V (s.Take wanted ∷ more) parts = (parts.0, blur V more parts.1)
+blur V (s.Read m ∷ more) parts = (parts.0, blur V more parts.1)
+blur V (s.Tell signal ∷ more) parts = (blurred (eats_all more) parts.0, blur V more parts.1)
+
+abbrev pub BlursIn : (V : Nonterminal → Type 0) → (m : Nonterminal) → RowOf V m → Type 0
+BlursIn V m (goes right make) = (p : Parts V right) → make (blur V right p) ≡ make p
+BlursIn V m (refuses cause) = Unit {0}
 
 abbrev pub Blurs : (m : Nonterminal) → Row m → Type 0
-Blurs m (goes right make) = (p : Parts Value right) → make (blur right p) ≡ make p
-Blurs m (refuses cause) = Unit {0}
+Blurs m r = BlursIn Value m r
 
 blurs_if : (m : Nonterminal) (test : Bool) (a b : Row m) → Blurs m a → Blurs m b → Blurs m (if test then a else b)
 blurs_if m true a b h i = h

@@ -4,8 +4,8 @@ use Rattle.hz_tree.specs.declared.class.Class.{Class}
 use Rattle.hz_tree.specs.declared.class.Class.TheVariants as k
 use Rattle.hz_tree.specs.declared.nonterminal.Nonterminal.{Nonterminal}
 use Rattle.hz_tree.specs.declared.nonterminal.Nonterminal.TheVariants as n
-use Rattle.hz_tree.specs.grammar.Symbols.{Row, goes, refuses}
-use Rattle.hz_tree.specs.grammar.Table.{row}
+use Rattle.hz_tree.specs.grammar.Symbols.{Row}
+use Rattle.hz_tree.specs.grammar.Table.{Step, pushes, fails, row, step_of}
 use Rattle.hz_laws.proofs.Ranks.{eats, eats_all}
 use Rattle.hz_laws.proofs.RowLaws.{looked}
 use Rattle.hz_alone.specs.Middle.{goes_on}
@@ -125,9 +125,12 @@ second_same _ h = cc
 -- ---- as the first token
 
 -- a token is taken, or none can be
+abbrev pub EatsStep : Step → Type 0
+EatsStep (pushes right) = eats_all right ≡ true
+EatsStep (fails cause) = Unit {0}
+
 abbrev pub Eats : (m : Nonterminal) → Row m → Type 0
-Eats m (goes right make) = eats_all right ≡ true
-Eats m (refuses cause) = Unit {0}
+Eats m r = EatsStep (step_of r)
 
 abbrev pub First : (m : Nonterminal) → (one : Class) → (newline : Bool) → (two two' : Class) → (a b a' b' : Bool)
     → Type 0

@@ -1,6 +1,6 @@
 -- Each function is read by a reader that begins where it starts.
 use Rattle.std.proofs.Common.{◌≡◌, Bool, true, false, if◌then◌else◌, List, [], ◌∷◌, ◌++◌}
-use Rattle.std.proofs.Common.{None, refl, ap, sym}
+use Rattle.std.proofs.Common.{None, codes, drop, refl, ap, sym}
 use Rattle.std.proofs.Common.{◌∙◌}
 use Rattle.std.proofs.Common.{All}
 use Rattle.std.proofs.lemmas.List.Elements.{All-nil, All-cons, All-head, All-tail}
@@ -20,7 +20,7 @@ use Rattle.hz_tree.specs.grammar.Look.{Terminal, look, stuck, terminals}
 use Rattle.hz_tree.specs.grammar.StatementRows.{bound_by}
 use Rattle.hz_tree.specs.grammar.Symbols.{Parts, Value, Row, goes, refuses}
 use Rattle.hz_tree.specs.reading.Reading.{Got, Stuck, place_ahead, takes, read_all, by_row, reads}
-use Rattle.hz_tree.specs.tokens.Text.{Text}
+use Rattle.hz_tree.specs.tokens.Text.{Text, begins}
 use Rattle.hz_tree.specs.tokens.Tokens.{tokens}
 use Rattle.hz_middle.specs.Place.{beginning, left}
 use Rattle.hz_laws.proofs.Balance.{Then, then_got}
@@ -148,14 +148,14 @@ shape_first setter from rest parts h =
 
 -- ---- the symbols of functions
 
-record Fit (shape : Shape) : Type 0 where
-  opening : opens (written shape).symbols ≡ true
-  silent : untold (written shape).symbols ≡ true
-  walking : walks_all [] (written shape).symbols ≡ true
+pub record Fit (shape : Shape) : Type 0 where
+  pub opening : opens (written shape).symbols ≡ true
+  pub silent : untold (written shape).symbols ≡ true
+  pub walking : walks_all [] (written shape).symbols ≡ true
   same : (p q : Parts Value (written shape).symbols) → SameBehind (written shape).symbols p q
       → (written shape).given p ≡ (written shape).given q
 
-shapes_fit : (shape : Shape) → Fit shape
+pub shapes_fit : (shape : Shape) → Fit shape
 shapes_fit (declared true) = record {
   opening = refl;
   silent = refl;
@@ -219,10 +219,18 @@ shapes_fit setter = record {
 
 -- ---- functions
 
-pub read_alone : (source : Text) (f : FunctionNode) → StandingPlain f (terminals source) → ReadAlone source f
+-- where a function stands, as a reader finds it that begins there
+pub record Beginning (source : Text) (f : FunctionNode) (s : Standing f (terminals source)) : Type 0 where
+  pub first : Terminal
+  pub others : List Terminal
+  pub from : s.from ≡ first ∷ others
+  pub split : terminals source ≡ s.passed ++ first ∷ others
+  pub comment : begins (codes "-->") (drop first.token.at source) ≡ false
+  pub at : f.at ≡ first.token.at
+
+pub begins_there : (source : Text) (f : FunctionNode) (s : Standing f (terminals source)) → Beginning source f s
 unfolding terminals
-read_alone source f h =
-    let s : Standing f (terminals source) = h.standing in
+begins_there source f s =
     let one : First s.from = shape_first s.shape s.from s.left s.parts s.read in
     let there : terminals source ≡ s.passed ++ one.first ∷ one.others =
     s.split ∙ ap (λ us. s.passed ++ us) one.is in
@@ -230,14 +238,25 @@ read_alone source f h =
     found s.passed 0 (tokens source) one.first one.others there in
     let starting : starts (class_of one.first.token) ≡ true =
     sym (ap (λ x. starts x.class) t.here) ∙ one.starting in
+    record {
+      first = one.first;
+      others = one.others;
+      from = one.is;
+      split = there;
+      comment = no_comment source t.before t.after one.first.token t.split starting;
+      at = s.start ∙ ap place_ahead one.is;
+    }
+
+pub read_alone : (source : Text) (f : FunctionNode) → StandingPlain f (terminals source) → ReadAlone source f
+read_alone source f h =
+    let s : Standing f (terminals source) = h.standing in
+    let b : Beginning source f s = begins_there source f s in
     let fit : Fit s.shape = shapes_fit s.shape in
-    let r : ReadsAlike (written s.shape).symbols s.parts s.left (left (beginning source one.first.token.at)) =
-    reads_there source s.passed one.others s.left one.first (written s.shape).symbols s.parts there
-    (no_comment source t.before t.after one.first.token t.split starting) fit.opening fit.silent fit.walking
-    (sym (ap (read_all reads (written s.shape).symbols) one.is) ∙ s.read) in
-    let at : f.at ≡ one.first.token.at = s.start ∙ ap place_ahead one.is in
+    let r : ReadsAlike (written s.shape).symbols s.parts s.left (left (beginning source b.first.token.at)) =
+    reads_there source s.passed b.others s.left b.first (written s.shape).symbols s.parts b.split b.comment
+    fit.opening fit.silent fit.walking (sym (ap (read_all reads (written s.shape).symbols) b.from) ∙ s.read) in
     let read : read_all reads (written s.shape).symbols (left (beginning source f.at)) ≡ Got r.others r.left =
-    ap (λ place. read_all reads (written s.shape).symbols (left (beginning source place))) at ∙ r.read in
+    ap (λ place. read_all reads (written s.shape).symbols (left (beginning source place))) b.at ∙ r.read in
     (record {
       shape = s.shape;
       parts = r.others;

@@ -7,6 +7,11 @@ pub mod Terminals
 pub mod Walks
 pub mod Walking
 pub mod Begun
+pub mod BegunCounts
 pub mod Places
 pub mod Comments
 pub mod Functions
+pub mod Within
+pub mod OwnAlone
+pub mod ArrowsAlone
+pub mod Scripts

@@ -1,5 +1,5 @@
 -- What is read where a function stands is read by a reader that begins there.
-use Rattle.std.proofs.Common.{◌≡◌, Bool, true, false, inl, inr, List, [], ◌∷◌, ◌++◌, Option, Some, None, drop}
+use Rattle.std.proofs.Common.{◌≡◌, ℕ, Bool, true, false, inl, inr, List, [], ◌∷◌, ◌++◌, Option, Some, None, drop}
 use Rattle.std.proofs.Common.{codes, refl, ap, sym, ◌∙◌, subst}
 use Rattle.std.specs.Option.{option_and_then}
 use Rattle.hz_tree.specs.declared.symbol.Symbol.{Symbol}
@@ -12,8 +12,10 @@ use Rattle.hz_middle.specs.Place.{beginning, left}
 use Rattle.hz_laws.specs.Middle.{Classed, braces_behind}
 use Rattle.hz_laws.proofs.Balance.{terminals_classed}
 use Rattle.hz_alone.specs.Middle.{goes_on, Parted, SeenAs, begun, opens, untold, ReadsAlike}
+use Rattle.hz_own.specs.Owned.{Owned, counted, owns}
 use Rattle.hz_alone.proofs.Begun.{Begins, symbols_begin}
-use Rattle.hz_alone.proofs.Readings.{symbols_same}
+use Rattle.hz_alone.proofs.BegunCounts.{CountsBegun, symbols_counted_begin}
+use Rattle.hz_alone.proofs.Readings.{symbols_same, symbols_counted}
 use Rattle.hz_alone.proofs.Terminals.{seen_left}
 use Rattle.hz_alone.proofs.Walking.{step, walked, Walking, symbols_walk, braces_are, goes_on_ends}
 use Rattle.hz_alone.specs.Walks.{walk, walks_all}
@@ -96,51 +98,121 @@ end_same rest seen (inl same) = sym (ap end_behind same)
 end_same rest seen (inr p) =
     end_by p.before p.more p.others rest seen p.ending p.brace p.ends.behind p.source_is p.seen_is
 
-parted_alike : (right : List Symbol) (ts seen rest : List Terminal) (parts : Parts Value right) → untold right ≡ true
-    → walks_all [] right ≡ true → Classed ts → read_all reads right ts ≡ Got parts rest → Parted [] ts seen
-    → (left : List Terminal) × ((read_all reads right seen ≡ Got parts left) × SeenAs [] rest left)
-parted_alike right ts seen rest parts none walks classed h p =
+-- What is read of the source's terminals is read of what is seen, with the same counts, up to the same place.
+record Leaves (right : List Symbol) (ts seen rest : List Terminal) : Type 0 where
+  left : List Terminal
+  behind : SeenAs [] rest left
+  trees : (parts : Parts Value right) → read_all reads right ts ≡ Got parts rest
+      → read_all reads right seen ≡ Got parts left
+  counts : (counts : Parts Owned right) → read_all owns right ts ≡ Got counts rest
+      → read_all owns right seen ≡ Got counts left
+
+-- It is left before the hole ends.
+record Before (ts seen rest : List Terminal) (p : Parted [] ts seen) : Type 0 where
+  mid : List Terminal
+  rest_is : rest ≡ mid ++ p.ending ∷ p.more
+  closed : braces_behind mid [] ≡ []
+
+before_hole : (right : List Symbol) (ts seen rest : List Terminal) (parts : Parts Value right)
+    → walks_all [] right ≡ true → Classed ts → read_all reads right ts ≡ Got parts rest → (p : Parted [] ts seen)
+    → Before ts seen rest p
+before_hole right ts seen rest parts walks classed h p =
     let w : Walking [] ts rest = symbols_walk right ts parts rest walks h in
     let r : Reached w.passed p.before =
     reached w.passed p.before rest p.more p.ending [] (classed_first w.passed rest (subst Classed w.split classed))
     (sym w.split ∙ p.source_is) (w.closed []) p.closed p.ends.hole in
-    let mid : rest ≡ r.mid ++ p.ending ∷ p.more = left_is w.passed rest r.mid (p.ending ∷ p.more)
-    (sym w.split ∙ p.source_is ∙ ap (λ us. us ++ p.ending ∷ p.more) r.split) in
-    let whole : read_all reads right (p.before ++ p.ending ∷ p.more) ≡ Got parts (r.mid ++ p.ending ∷ p.more) =
-    ap (read_all reads right) (sym p.source_is) ∙ h ∙ ap (Got parts) mid in (
-      r.mid ++ p.brace ∷ p.others,
-      (
-        ap (read_all reads right) p.seen_is
-            ∙ symbols_same p.ending p.brace p.more p.others p.ends right p.before r.mid parts none whole,
-        inr (record {
-          before = r.mid;
-          ending = p.ending;
-          more = p.more;
-          brace = p.brace;
-          others = p.others;
-          source_is = mid;
-          seen_is = refl;
-          ends = p.ends;
-          closed = r.closed;
-        }),
-      ),
-    )
+    record {
+      mid = r.mid;
+      rest_is =
+          left_is w.passed rest r.mid (p.ending ∷ p.more)
+          (sym w.split ∙ p.source_is ∙ ap (λ us. us ++ p.ending ∷ p.more) r.split);
+      closed = r.closed;
+    }
   where
     left_is : (passed rest mid others : List Terminal) → passed ++ rest ≡ (passed ++ mid) ++ others
         → rest ≡ mid ++ others
     left_is [] rest mid others e = e
     left_is (x ∷ passed) rest mid others e = left_is passed rest mid others (tail_is x x _ _ e)
 
-seen_alike : (right : List Symbol) (ts seen rest : List Terminal) (parts : Parts Value right) → untold right ≡ true
+parted_leaves : (right : List Symbol) (ts seen rest : List Terminal) → untold right ≡ true → (p : Parted [] ts seen)
+    → Before ts seen rest p → Leaves right ts seen rest
+parted_leaves right ts seen rest none p b =
+    record {
+      left = b.mid ++ p.brace ∷ p.others;
+      behind = inr (record {
+        before = b.mid;
+        ending = p.ending;
+        more = p.more;
+        brace = p.brace;
+        others = p.others;
+        source_is = b.rest_is;
+        seen_is = refl;
+        ends = p.ends;
+        closed = b.closed;
+      });
+      trees = λ vs got.
+          ap (read_all reads right) p.seen_is
+          ∙ symbols_same p.ending p.brace p.more p.others p.ends right p.before b.mid vs none
+          (ap (read_all reads right) (sym p.source_is) ∙ got ∙ ap (Got vs) b.rest_is);
+      counts = λ vs got.
+          ap (read_all owns right) p.seen_is
+          ∙ symbols_counted p.ending p.brace p.more p.others p.ends right p.before b.mid vs none
+          (ap (read_all owns right) (sym p.source_is) ∙ got ∙ ap (Got vs) b.rest_is);
+    }
+
+leaves : (right : List Symbol) (ts seen rest : List Terminal) (parts : Parts Value right) → untold right ≡ true
     → walks_all [] right ≡ true → Classed ts → read_all reads right ts ≡ Got parts rest → SeenAs [] ts seen
-    → (left : List Terminal) × ((read_all reads right seen ≡ Got parts left) × SeenAs [] rest left)
-seen_alike right ts seen rest parts none walks classed h (inl same) =
-    (rest, (ap (read_all reads right) (sym same) ∙ h, inl refl))
-seen_alike right ts seen rest parts none walks classed h (inr p) =
-    parted_alike right ts seen rest parts none walks classed h p
+    → Leaves right ts seen rest
+leaves right ts seen rest parts none walks classed h (inl same) = record {
+  left = rest;
+  behind = inl refl;
+  trees = λ vs got. ap (read_all reads right) (sym same) ∙ got;
+  counts = λ vs got. ap (read_all owns right) (sym same) ∙ got;
+}
+leaves right ts seen rest parts none walks classed h (inr p) =
+    parted_leaves right ts seen rest none p (before_hole right ts seen rest parts walks classed h p)
 
 begun_classed : (x : Terminal) (rest : List Terminal) → Classed (x ∷ rest) → Classed (begun (x ∷ rest))
 begun_classed x rest h = (h.0, h.1)
+
+source_classed : (source : Text) (passed behind : List Terminal) (x : Terminal)
+    → terminals source ≡ passed ++ x ∷ behind → Classed (begun (x ∷ behind))
+unfolding terminals
+source_classed source passed behind x split =
+    begun_classed x behind
+    (classed_second passed (x ∷ behind) (subst Classed split (terminals_classed (tokens source) 0)))
+
+-- what a reader finds that begins at a token of a source, where symbols are read
+record There (source : Text) (right : List Symbol) (parts : Parts Value right) (ts rest : List Terminal) (at : ℕ)
+    : Type 0 where
+  alone : Begins right parts rest (begun ts)
+  leaving : Leaves right (begun ts) (left (beginning source at)) rest
+
+there : (source : Text) (passed behind rest : List Terminal) (x : Terminal) (right : List Symbol)
+    (parts : Parts Value right) → terminals source ≡ passed ++ x ∷ behind
+    → begins (codes "-->") (drop x.token.at source) ≡ false → opens right ≡ true → untold right ≡ true
+    → walks_all [] right ≡ true → read_all reads right (x ∷ behind) ≡ Got parts rest
+    → There source right parts (x ∷ behind) rest x.token.at
+there source passed behind rest x right parts split comment o none walks h =
+    let b : Begins right parts rest (begun (x ∷ behind)) = symbols_begin right x behind rest parts o h in
+    record {
+      alone = b;
+      leaving =
+          leaves right (begun (x ∷ behind)) (left (beginning source x.token.at)) rest b.others none walks
+          (source_classed source passed behind x split) b.read (seen_left source passed behind x split comment);
+    }
+
+-- What is read there ends before the hole does in which it begins.
+pub ends_before : (source : Text) (passed behind rest seen : List Terminal) (x : Terminal) (right : List Symbol)
+    (parts : Parts Value right) → terminals source ≡ passed ++ x ∷ behind → opens right ≡ true
+    → walks_all [] right ≡ true → read_all reads right (x ∷ behind) ≡ Got parts rest
+    → (p : Parted [] (begun (x ∷ behind)) seen) → (mid : List Terminal) × (rest ≡ mid ++ p.ending ∷ p.more)
+ends_before source passed behind rest seen x right parts split o walks h p =
+    let b : Begins right parts rest (begun (x ∷ behind)) = symbols_begin right x behind rest parts o h in
+    let e : Before (begun (x ∷ behind)) seen rest p =
+    before_hole right (begun (x ∷ behind)) seen rest b.others walks (source_classed source passed behind x split)
+    b.read p in
+    (e.mid, e.rest_is)
 
 -- Where symbols are read in the middle of a source, a reader that begins there reads the same.
 pub reads_there : (source : Text) (passed behind rest : List Terminal) (x : Terminal) (right : List Symbol)
@@ -148,18 +220,43 @@ pub reads_there : (source : Text) (passed behind rest : List Terminal) (x : Term
     → begins (codes "-->") (drop x.token.at source) ≡ false → opens right ≡ true → untold right ≡ true
     → walks_all [] right ≡ true → read_all reads right (x ∷ behind) ≡ Got parts rest
     → ReadsAlike right parts rest (left (beginning source x.token.at))
-unfolding terminals
-reads_there source passed behind rest x right parts there comment o none walks h =
-    let b : Begins right parts rest (begun (x ∷ behind)) = symbols_begin right x behind rest parts o h in
-    let classed : Classed (x ∷ behind) =
-    classed_second passed (x ∷ behind) (subst Classed there (terminals_classed (tokens source) 0)) in
-    let s = seen_alike right (begun (x ∷ behind)) (left (beginning source x.token.at)) rest b.others none walks
-    (begun_classed x behind classed) b.read (seen_left source passed behind x there comment) in
-    (record {
-      others = b.others;
-      left = s.0;
-      read = s.1.0;
-      same = b.same;
-      behind = s.1.1;
-      end = end_same rest s.0 s.1.1;
-    })
+reads_there source passed behind rest x right parts split comment o none walks h =
+    let t : There source right parts (x ∷ behind) rest x.token.at =
+    there source passed behind rest x right parts split comment o none walks h in
+    record {
+      others = t.alone.others;
+      left = t.leaving.left;
+      read = t.leaving.trees t.alone.others t.alone.read;
+      same = t.alone.same;
+      behind = t.leaving.behind;
+      end = end_same rest t.leaving.left t.leaving.behind;
+    }
+
+-- trees and counts are read up to the same place
+pub record CountsAlike (right : List Symbol) (counts : Parts Owned right) (seen : List Terminal) : Type 0 where
+  pub trees : Parts Value right
+  pub others : Parts Owned right
+  pub left : List Terminal
+  pub read : read_all reads right seen ≡ Got trees left
+  pub read_counts : read_all owns right seen ≡ Got others left
+  pub same : counted right others ≡ counted right counts
+
+-- It counts as much.
+pub counts_there : (source : Text) (passed behind rest : List Terminal) (x : Terminal) (right : List Symbol)
+    (parts : Parts Value right) (counts : Parts Owned right) → terminals source ≡ passed ++ x ∷ behind
+    → begins (codes "-->") (drop x.token.at source) ≡ false → opens right ≡ true → untold right ≡ true
+    → walks_all [] right ≡ true → read_all reads right (x ∷ behind) ≡ Got parts rest
+    → read_all owns right (x ∷ behind) ≡ Got counts rest
+    → CountsAlike right counts (left (beginning source x.token.at))
+counts_there source passed behind rest x right parts counts split comment o none walks h i =
+    let t : There source right parts (x ∷ behind) rest x.token.at =
+    there source passed behind rest x right parts split comment o none walks h in
+    let c : CountsBegun right counts rest (begun (x ∷ behind)) = symbols_counted_begin right x behind rest counts o i in
+    record {
+      trees = t.alone.others;
+      others = c.others;
+      left = t.leaving.left;
+      read = t.leaving.trees t.alone.others t.alone.read;
+      read_counts = t.leaving.counts c.others c.read;
+      same = c.same;
+    }

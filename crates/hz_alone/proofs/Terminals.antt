@@ -36,7 +36,7 @@ unfolding same_bracket
 brace_none bracket.Curly bs h = absurd (no_hole false (braces_of bs) h.others h.split)
 brace_none _ bs h = refl
 
-goes_on_arrow : (c : Class) → goes_on c ≡ true → is_arrow c ≡ false
+pub goes_on_arrow : (c : Class) → goes_on c ≡ true → is_arrow c ≡ false
 goes_on_arrow k.TemplateMiddle g = refl
 goes_on_arrow k.TemplateTail g = refl
 goes_on_arrow k.Malformed g = refl

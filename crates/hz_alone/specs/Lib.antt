@@ -1,3 +1,4 @@
 pub mod Middle
 pub mod Walks
 pub mod Functions
+pub mod Alone

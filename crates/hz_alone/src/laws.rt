@@ -1,7 +1,8 @@
 //! Laws of what a reader finds that begins in the middle of a source. Each is a function with nothing to do, whose
 //! contract is the law.
 
-ghost use Rattle.std.specs.Prelude.{◌≡◌, List, [], ◌∷◌, ◌++◌, All, true, false, drop, codes};
+ghost use Rattle.std.specs.Prelude.{◌≡◌, ℕ, List, [], ◌∷◌, ◌++◌, All, Some, true, false, drop, codes};
+ghost use Rattle.std.specs.List.{slice_get};
 ghost use Rattle.hz_tree.specs.declared.nonterminal.Nonterminal.{Nonterminal};
 ghost use Rattle.hz_tree.specs.declared.nonterminal.Nonterminal.TheVariants.{Script};
 ghost use Rattle.hz_tree.specs.declared.symbol.Symbol.{Symbol};
@@ -10,8 +11,13 @@ ghost use Rattle.hz_tree.specs.grammar.Look.{Terminal, terminals};
 ghost use Rattle.hz_tree.specs.grammar.Symbols.{Parts, Value};
 ghost use Rattle.hz_tree.specs.reading.Reading.{Got, read_all, reads};
 ghost use Rattle.hz_tree.specs.tokens.Text.{Text, begins};
+ghost use Rattle.hz_tree.specs.trees.Functions.{functions_of};
+ghost use Rattle.hz_tree.specs.trees.FunctionTrees.{own_tokens};
 ghost use Rattle.hz_middle.specs.Place.{beginning, left};
 ghost use Rattle.hz_stands.specs.Nodes.{nodes_of};
+ghost use Rattle.hz_own.specs.OwnCounts.{script_info};
+ghost use Rattle.hz_own.specs.Owned.{owns};
+ghost use Rattle.hz_alone.specs.Alone.{ArrowsAlone, KnownWithin, OwnAlone, ToldBefore};
 ghost use Rattle.hz_alone.specs.Functions.{ReadAlone};
 ghost use Rattle.hz_alone.specs.Middle.{EndsHole, ReadsAlike, SeenAs, begun, opens, untold};
 ghost use Rattle.hz_alone.specs.Walks.{walks_all};
@@ -53,4 +59,45 @@ pub fn reading_begins_anywhere()
 pub fn functions_are_read_alone()
     ensures { (source : Text) (script : Tree) (rest : List Terminal) →
         reads Script (terminals source) ≡ Got script rest → All (ReadAlone source) (nodes_of script) }
+{}
+
+/// Law: the functions within each of them are known by their numbers: the entry there has their extent and their kind.
+pub fn functions_within_are_known()
+    ensures { (source : Text) (script : Tree) (rest : List Terminal) → reads Script (terminals source) ≡
+        Got script rest → All (KnownWithin (functions_of source script) source) (nodes_of script) }
+{}
+
+/// Law: each of them is read with counts of as many tokens as are its own, up to the place where its tree ends.
+#[tactic(auto, using(crate::proofs::OwnAlone::all_counted))]
+pub fn own_tokens_are_counted_alone()
+    ensures { (source : Text) (script : Tree) (rest : List Terminal) → reads Script (terminals source) ≡
+        Got script rest → All (λ f. (a : ReadAlone source f) → OwnAlone (functions_of source script) source f a)
+        (nodes_of script) }
+{}
+
+/// Law: where an arrow of the source starts, before the function ends, the reader of the function sees that an arrow
+/// begins, as the grammar does.
+pub fn arrows_are_told_alone()
+    ensures { (source : Text) (script : Tree) (rest : List Terminal) → reads Script (terminals source) ≡
+        Got script rest → All (ArrowsAlone (functions_of source script) source) (nodes_of script) }
+{}
+
+/// Law: a reader that begins at the start of a source sees all its terminals, and the entry with the number 0 is the
+/// script's.
+#[tactic(auto, using(crate::proofs::Scripts::all_seen, crate::proofs::Scripts::script_found))]
+pub fn sources_are_seen_from_the_start()
+    ensures seen { (source : Text) → left (beginning source 0) ≡ terminals source }
+    ensures found { (source : Text) (script : Tree) → slice_get (functions_of source script) 0 ≡
+        Some (script_info source) }
+{}
+
+/// Law: so it reads the script with counts of as many tokens as are the script's own, and sees where arrows begin.
+#[tactic(auto, using(crate::proofs::Scripts::counted_alone, crate::proofs::Scripts::told_alone))]
+pub fn scripts_are_read_from_the_start()
+    ensures counted { (source : Text) (script : Tree) (rest : List Terminal) → reads Script (terminals source) ≡
+        Got script rest → owns Script (left (beginning source 0)) ≡
+        Got (own_tokens (functions_of source script) source 0 (script_info source)) rest }
+    ensures told { (source : Text) (script : Tree) (rest : List Terminal) (end : ℕ) →
+        reads Script (terminals source) ≡ Got script rest →
+        All (ToldBefore (left (beginning source 0)) end) (functions_of source script) }
 {}

@@ -7,5 +7,7 @@
 mod laws;
 
 pub use laws::{
-    functions_are_read_alone, holes_end_like_blocks, reading_begins_anywhere, the_source_is_seen,
+    arrows_are_told_alone, functions_are_read_alone, functions_within_are_known,
+    holes_end_like_blocks, own_tokens_are_counted_alone, reading_begins_anywhere,
+    scripts_are_read_from_the_start, sources_are_seen_from_the_start, the_source_is_seen,
 };

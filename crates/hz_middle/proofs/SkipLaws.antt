@@ -6,7 +6,7 @@ use Rattle.hz_tree.specs.grammar.Look.{Terminal}
 use Rattle.hz_tree.specs.grammar.Symbols.{Value}
 use Rattle.hz_tree.specs.reading.Reading.{Got, reads}
 use Rattle.hz_tree.specs.tokens.Tokens.{Lexeme, braces}
-use Rattle.hz_laws.specs.Middle.{Classed, braces_behind, closes_hole, hole_by, hole, Balances}
+use Rattle.hz_laws.specs.Middle.{Classed, braces_behind, closes_hole, hole_by, Balances}
 use Rattle.hz_laws.proofs.Balance.{reading_balance, terminals_classed}
 use Rattle.hz_middle.specs.Place.{Place, tokens_left, left, first, past, terminal}
 use Rattle.hz_middle.proofs.PlaceLaws.{left_some, left_none}
@@ -68,25 +68,23 @@ classed_first : (ps qs : List Terminal) → Classed (ps ++ qs) → Classed ps
 classed_first [] qs h = tt
 classed_first (p ∷ ps) qs h = (h.0, classed_first ps qs h.1)
 
--- without the braces that a reading closes
-closed_braces : (m : Nonterminal) (opened outer : List Bool) → closes_hole m ≡ false → opened ≡ outer
-    → hole m ++ outer ≡ opened
-closed_braces m opened outer h e = ap (λ b. hole_by b ++ outer) h ∙ sym e
+-- Where terminals are passed that close the braces which they open, what is left stands at the place behind them.
+pub skip_balanced : (p : Place) (x : Terminal) (rest : List Terminal) → Balances [] (left p) (x ∷ rest)
+    → left (record p { at = x.behind; ended = false }) ≡ x ∷ rest
+skip_balanced p x rest b =
+    let r : Reaches p b.passed (x ∷ rest) = reaches b.passed p (x ∷ rest) b.split in
+    let classed : Classed b.passed =
+    classed_first b.passed (x ∷ rest) (subst Classed b.split (terminals_classed (tokens_left p) p.at)) in
+    let opened : r.place.opened ≡ p.opened = r.opened_is ∙ b.closed classed p.opened in
+    ap left (ap (λ o. record p { opened = o; at = x.behind; ended = false }) (sym opened)
+    ∙ ap (λ s. record r.place { source = s; at = x.behind; ended = false }) (sym r.source_is)
+    ∙ stands r.place x rest r.left_is)
+    ∙ r.left_is
 
 -- Behind a reading that closes no hole stands what is left at the place where its last token ends.
 pub skip_law : (p : Place) (m : Nonterminal) (v : Value m) (x : Terminal) (rest : List Terminal)
     → closes_hole m ≡ false → reads m (left p) ≡ Got v (x ∷ rest)
     → left (record p { at = x.behind; ended = false }) ≡ x ∷ rest
 skip_law p m v x rest h is =
-    let b : Balances (hole m) (left p) (x ∷ rest) = reading_balance m (left p) (x ∷ rest) v is in
-    let r : Reaches p b.passed (x ∷ rest) = reaches b.passed p (x ∷ rest) b.split in
-    let classed : Classed b.passed =
-    classed_first b.passed (x ∷ rest) (subst Classed b.split (terminals_classed (tokens_left p) p.at)) in
-    let opened : r.place.opened ≡ p.opened =
-    r.opened_is
-    ∙ ap (braces_behind b.passed) (sym (closed_braces m p.opened p.opened h refl))
-    ∙ b.closed classed p.opened in
-    ap left (ap (λ o. record p { opened = o; at = x.behind; ended = false }) (sym opened)
-    ∙ ap (λ s. record r.place { source = s; at = x.behind; ended = false }) (sym r.source_is)
-    ∙ stands r.place x rest r.left_is)
-    ∙ r.left_is
+    skip_balanced p x rest
+    (subst (λ inner. Balances inner (left p) (x ∷ rest)) (ap hole_by h) (reading_balance m (left p) (x ∷ rest) v is))

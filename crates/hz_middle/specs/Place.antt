@@ -99,9 +99,8 @@ pub record Took (wanted : Class) (old new : Place) : Type 0 where
   pub moved : new ≡ past old token
   pub taken : takes wanted (left old) ≡ Got (terminal old token) (left new)
 
--- it is taken with a step, or none is
-abbrev pub Eats : (wanted : Class) → (old new : Place) → (before now : ℕ) → Result Bool Memory → Type 0
-Eats wanted old new before now (Ok true) = Took wanted old new × (now ≡ before + 1)
-Eats wanted old new before now (Ok false) =
-    (takes wanted (left old) ≡ Stuck (stuck (look (left old))) (left old)) × ((new ≡ old) × (now ≡ before))
-Eats wanted old new before now (Err memory) = Unit {0}
+-- it is taken, or nothing is
+abbrev pub Eats : (wanted : Class) → (old new : Place) → Result Bool Memory → Type 0
+Eats wanted old new (Ok true) = Took wanted old new
+Eats wanted old new (Ok false) = (takes wanted (left old) ≡ Stuck (stuck (look (left old))) (left old)) × (new ≡ old)
+Eats wanted old new (Err memory) = Unit {0}

@@ -3,12 +3,11 @@ ghost use Rattle.hz_tree.specs.tokens.Tokens.{lexeme, token_behind};
 ghost use Rattle.hz_middle.specs.Place as spec;
 ghost use Rattle.hz_middle.specs.Place.{Inside, first, past, place_of, seen_class, seen_newline};
 
-use hz_list::{Memory, Steps};
+use hz_list::Memory;
 use hz_scan::{Braces, Scanner, class_of};
 use hz_tree::{Class, Look, Token, TokenKind};
 use std::alloc::Global;
 use std::marker::Model;
-use std::sync::ledger::Ledger;
 
 /// A place of a source, with the next two tokens in view.
 ///
@@ -63,26 +62,25 @@ impl<'a> Middle<'a> {
         }
     }
 
-    /// Takes the next terminal, with one step, where the grammar takes it for a token of the class, and tells whether it
-    /// did. Memory is wanted where the token opens a brace.
+    /// Takes the next terminal, where the grammar takes it for a token of the class, and tells whether it did. Memory is
+    /// wanted where the token opens a brace.
     #[tactic(auto, using(crate::proofs::PlaceLaws::eats_none))]
-    pub fn eat<L: Ledger>(&mut self, wanted: Class, steps: &mut Steps<L>) -> Result<bool, Memory>
-        ensures { Eats wanted self.old self.new steps.old steps.new result }
+    pub fn eat(&mut self, wanted: Class) -> Result<bool, Memory>
+        ensures { Eats wanted self.old self.new result }
     {
         match self.next() {
             Some(one) if wanted.fits(class_of(&one)) => {
                 self.take(one)?;
-                steps.tick();
                 Ok(true)
             }
             _ => Ok(false),
         }
     }
 
-    /// The next two terminals, as the rules of the grammar test them. `arrow` tells whether the first of the two that is
-    /// a `(` begins the parameters of an arrow.
+    /// The next two terminals, as the rules of the grammar test them. `arrow` is the caller's answer whether the first of
+    /// the two that is a `(` begins the parameters of an arrow.
     pub fn look(&self, arrow: bool) -> Look
-        ensures { (look (left self.now)).arrow ≡ arrow → result ≡ look (left self.now) }
+        ensures { result ≡ record (look (left self.now)) { arrow = arrow } }
     {
         shown(self.one, self.two, arrow)
     }
