@@ -1,3 +1,1 @@
-pub mod LeadsLaws
 pub mod MakesLaws
-pub mod Outside

@@ -7,9 +7,9 @@ use Rattle.hz_tree.specs.declared.nonterminal.Context.{Context}
 use Rattle.hz_tree.specs.declared.nonterminal.Nonterminal.TheVariants as n
 use Rattle.hz_tree.specs.declared.tree.Tree.{Tree}
 use Rattle.hz_tree.specs.grammar.PrimaryRows.{arguments_row, elements_row}
-use Rattle.hz_parse_expr.specs.declared.parts.Parts.{Parts as Stacks}
-use Rattle.hz_parse_expr.specs.Makes.{Makes}
-use Rattle.hz_parse_expr.specs.Values.{push_list, push_tree}
+use Rattle.hz_parts.specs.declared.parts.Parts.{Parts as Stacks}
+use Rattle.hz_parts.specs.Makes.{Makes}
+use Rattle.hz_parts.specs.Values.{push_list, push_tree}
 
 -- what puts the uppermost tree before the uppermost list
 abbrev First : (old new : Stacks) → Type 0

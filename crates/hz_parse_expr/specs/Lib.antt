@@ -1,3 +1,2 @@
-pub mod Leads
 pub mod Makes
-pub mod Values
+pub mod Trees

@@ -4,11 +4,11 @@ ghost use Rattle.std.specs.Prelude.{◌≡◌};
 ghost use Rattle.hz_tree.specs.declared.nonterminal.Context.{Context as In};
 ghost use Rattle.hz_tree.specs.declared.nonterminal.Nonterminal.TheVariants as n;
 ghost use Rattle.hz_tree.specs.grammar.PrimaryRows as row;
-ghost use Rattle.hz_parse_expr.specs.Makes.{Makes};
+ghost use Rattle.hz_parts.specs.Makes.{Makes};
 
-use crate::parts::Parts;
-use crate::shapes::{first_item, no_items, past_token, spread};
+use crate::shapes::spread;
 use hz_list::Memory;
+use hz_parts::{Parts, first_item, no_items, past_token};
 use hz_tree::{Class, Tree};
 use std::alloc::Global;
 

@@ -5,11 +5,10 @@ ghost use Rattle.hz_tree.specs.declared.look.Look.{Look as Ahead};
 ghost use Rattle.hz_tree.specs.declared.nonterminal.Context.{Context as In};
 ghost use Rattle.hz_tree.specs.declared.nonterminal.Nonterminal.TheVariants as n;
 ghost use Rattle.hz_tree.specs.grammar.PropertyRows as row;
-ghost use Rattle.hz_parse_expr.specs.Makes.{Makes};
+ghost use Rattle.hz_parts.specs.Makes.{Makes};
 
-use crate::parts::Parts;
-use crate::shapes::past_token;
 use hz_list::Memory;
+use hz_parts::{Parts, past_token};
 use hz_tree::{Class, Tree};
 use sqlite_items::Boxed;
 use std::alloc::Global;

@@ -1,23 +1,13 @@
-// What the grammar's rows of expressions make of their parts, for a reader with a stack of symbols.
+// What the grammar's rows of expressions make of their parts: the makers, grouped as the table is.
 //
-// The layer above relies on this. Such a reader puts a mark behind the symbols of each row that it expands, and lays
-// what it reads onto stacks of parts (`Parts`; `specs/Values.antt` says what goes where). Where the mark comes up, the
-// parts of its row lie on top, and a maker puts the row's value in their place (`specs/Makes.antt`); the makers are
-// grouped as the table is. What symbols, marks and parts lead to, where the whole is read, is `specs/Leads.antt`: the
-// laws say so of each step, and that no row refuses and no token misfits. What is inside of a function is passed over.
+// The layer above relies on the contract of each maker, `Makes` of hz_parts: where the parts of a row stand on top of
+// the stacks, its value stands in their place afterwards, and only memory can fail.
 #![tactic(auto)]
 
 pub mod arguments;
-mod backwards;
 pub mod keys;
-mod laws;
-mod mark;
 pub mod members;
+pub mod operated;
 pub mod operators;
-mod parts;
+mod place;
 pub mod shapes;
-
-pub use backwards::Backwards;
-pub use laws::{marks_lead, parts_lead, reading_leads, rows_lead, rows_stay_outside};
-pub use mark::Mark;
-pub use parts::{Behind, Parts, Seen};

@@ -2,14 +2,12 @@
 
 ghost use Rattle.std.specs.Prelude.{◌≡◌, List, [], ◌∷◌, OnOk};
 ghost use Rattle.hz_tree.specs.declared.tree.Tree.{Tree as Made};
-ghost use Rattle.hz_parse_expr.specs.declared.parts.Behind.{Behind as Operation};
-ghost use Rattle.hz_parse_expr.specs.declared.parts.Behind.TheVariants as behind;
-ghost use Rattle.hz_parse_expr.specs.declared.parts.Seen.{Seen as Told};
+ghost use Rattle.hz_parts.specs.declared.parts.Behind.{Behind as Operation};
+ghost use Rattle.hz_parts.specs.declared.parts.Behind.TheVariants as behind;
+ghost use Rattle.hz_parts.specs.declared.parts.Seen.{Seen as Told};
 
-use crate::backwards::Backwards;
-use crate::parts::{Behind, Parts};
-use crate::shapes::{boxed_tree, past_token};
 use hz_list::Memory;
+use hz_parts::{Backwards, Behind, Parts, boxed_tree, past_token};
 use hz_tree::{AssignOperator, UpdateOperator};
 use std::alloc::Global;
 

@@ -18,7 +18,7 @@ impl<T> Model for Backwards<T> {
 }
 
 impl<T> Backwards<T> {
-    ghost use Rattle.std.specs.Prelude.{◌≡◌, ◌↔◌, [], ◌∷◌, IsTrue, MatchOption};
+    ghost use Rattle.std.specs.Prelude.{◌≡◌, ◌↔◌, [], ◌∷◌, drop, IsTrue, MatchOption};
 
     /// The empty list. No memory is taken.
     pub fn new(alloc: Global) -> Backwards<T>
@@ -34,6 +34,13 @@ impl<T> Backwards<T> {
         ensures { MatchOption result ((self.old ≡ []) × (self.new ≡ [])) (λ item. self.old ≡ item ∷ self.new) }
     {
         self.items.pop()
+    }
+
+    /// The first item. None where there is none.
+    pub fn first(&self) -> Option<&T>
+        ensures { MatchOption result (self.now ≡ []) (λ item. self.now ≡ item.now ∷ drop 1 self.now) }
+    {
+        self.items.last()
     }
 
     /// Whether there is no item.

@@ -1,5 +1,6 @@
 use crate::backwards::Backwards;
-use hz_tree::{AssignOperator, BinaryOperator, Bound, Slice, Tree, UpdateOperator};
+use crate::heads::{AfterFor, AfterLeft, AfterName};
+use hz_tree::{AssignOperator, BinaryOperator, Bound, Rest, Slice, Tree, UpdateOperator};
 use sqlite_items::Boxed;
 use std::alloc::Global;
 
@@ -35,18 +36,36 @@ pub enum Behind<'a> {
 #[derive(Drop)]
 pub struct Parts<'a> {
     pub seen: Backwards<Seen<'a>>,
+
+    /// The places at which functions were opened.
+    pub opened: Backwards<usize>,
     pub trees: Backwards<Tree<'a>>,
     pub lists: Backwards<Backwards<Tree<'a>>>,
-    pub options: Backwards<Option<Tree<'a>>>,
+
+    /// Trees that may be absent.
+    pub options: Backwards<Option<Boxed<Tree<'a>>>>,
     pub flags: Backwards<bool>,
     pub behind: Backwards<Backwards<Behind<'a>>>,
+
+    /// The texts of templates.
     pub texts: Backwards<Backwards<Slice<'a>>>,
+
+    /// Names, or labels that may be absent.
     pub names: Backwards<Option<Bound<'a>>>,
+
+    /// Parameters, and the rest behind them.
+    pub bounds: Backwards<Backwards<Bound<'a>>>,
+    pub rests: Backwards<Option<Rest<'a>>>,
+
+    // What stands in the head of a `for`.
+    pub after_names: Backwards<AfterName<'a>>,
+    pub after_lefts: Backwards<AfterLeft<'a>>,
+    pub after_fors: Backwards<AfterFor<'a>>,
 }
 
 impl<'a> Parts<'a> {
     ghost use Rattle.std.specs.Prelude.{◌≡◌};
-    ghost use Rattle.hz_parse_expr.specs.Values.{nothing};
+    ghost use Rattle.hz_parts.specs.Values.{nothing};
 
     /// Nothing was made.
     pub fn new(alloc: Global) -> Parts<'a>
@@ -54,6 +73,7 @@ impl<'a> Parts<'a> {
     {
         Parts {
             seen: Backwards::new(alloc),
+            opened: Backwards::new(alloc),
             trees: Backwards::new(alloc),
             lists: Backwards::new(alloc),
             options: Backwards::new(alloc),
@@ -61,6 +81,11 @@ impl<'a> Parts<'a> {
             behind: Backwards::new(alloc),
             texts: Backwards::new(alloc),
             names: Backwards::new(alloc),
+            bounds: Backwards::new(alloc),
+            rests: Backwards::new(alloc),
+            after_names: Backwards::new(alloc),
+            after_lefts: Backwards::new(alloc),
+            after_fors: Backwards::new(alloc),
         }
     }
 }

@@ -1,0 +1,4 @@
+pub mod Groups
+pub mod Heads
+pub mod Items
+pub mod Loops
