@@ -1,0 +1,14 @@
+pub mod Ends
+pub mod Split
+pub mod Even
+pub mod Marks
+pub mod Asked
+pub mod Plain
+pub mod Whole
+pub mod SkipNodes
+pub mod Rows
+pub mod LeadsLaws
+pub mod Measure
+pub mod Numbering
+pub mod Behind
+pub mod Tokens
