@@ -50,6 +50,12 @@ lined_to (suc n) opened source place h =
       )
     ] refl
 
+-- So do those from a place on.
+pub lined_from : (opened : List Bool) (source : Text) (place : ℕ) → place ≤ length source
+    → Lined source place (terminals_from place (tokens_from opened source place))
+unfolding tokens_from
+lined_from opened source place h = lined_to (suc (length source - place)) opened source place h
+
 -- The terminals of a source stand in line.
 pub terminals_lined : (source : Text) → Lined source 0 (terminals source)
 unfolding tokens_from terminals

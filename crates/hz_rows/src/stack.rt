@@ -35,7 +35,7 @@ impl Stack {
 
     /// Takes the symbol on top. None where there is none.
     pub fn pop(&mut self) -> Option<Symbol>
-        ensures { MatchOption result (self.old ≡ []) (λ symbol. self.old ≡ symbol ∷ self.new) }
+        ensures { MatchOption result ((self.old ≡ []) × (self.new ≡ [])) (λ symbol. self.old ≡ symbol ∷ self.new) }
     {
         self.symbols.pop()
     }

@@ -1,5 +1,6 @@
 -- The functions in what nonterminals give, in the order of the places at which they start.
 use Rattle.std.specs.Prelude.{ℕ, List, [], ◌∷◌, ◌++◌, map, length, min, Option, None}
+use Rattle.hz_tree.specs.declared.function_tree.FunctionTree.{FunctionTree}
 use Rattle.hz_tree.specs.declared.index.FunctionInfo.{FunctionInfo}
 use Rattle.hz_tree.specs.declared.nonterminal.Nonterminal.{Nonterminal}
 use Rattle.hz_tree.specs.declared.nonterminal.Nonterminal.TheVariants as n
@@ -17,7 +18,7 @@ use Rattle.hz_tree.specs.grammar.Symbols.{Parts, Value, AfterKey, has_value, cal
 use Rattle.hz_tree.specs.grammar.Symbols.{initialised, AfterLeft, target_of, expression_of, AfterFor, declares}
 use Rattle.hz_tree.specs.grammar.Symbols.{begins_left, begins_expr, AfterHead, Behind, updates, joins, chooses, assigns}
 use Rattle.hz_tree.specs.tokens.Text.{Text}
-use Rattle.hz_tree.specs.trees.FunctionTrees.{FunctionTree, number_at, names_of, rest_name}
+use Rattle.hz_tree.specs.trees.FunctionTrees.{number_at, names_of, rest_name}
 use Rattle.hz_tree.specs.trees.Places.{node, optional}
 use Rattle.hz_cuts.specs.Cuts.{cut_tree}
 

@@ -9,6 +9,7 @@
 mod class;
 mod early;
 mod front;
+mod function_tree;
 mod index;
 mod limit;
 mod look;
@@ -28,6 +29,7 @@ mod tree;
 pub use class::{Bracket, Bracketing, Class};
 pub use early::EarlyKind;
 pub use front::{Front, Stretch};
+pub use function_tree::FunctionTree;
 pub use index::{FunctionInfo, FunctionInfos};
 pub use limit::{LimitKind, MAX_DEPTH, MAX_LISTED};
 pub use look::Look;

@@ -2,6 +2,7 @@
 use Rattle.std.specs.Prelude.{ℕ, suc, ◌-◌, Bool, false, ◌&&◌, ◌==◌, nat_lt, nat_le, if◌then◌else◌, List, [], ◌∷◌, ◌++◌}
 use Rattle.std.specs.Prelude.{length, map, Option, Some, None, option_map}
 use Rattle.std.specs.List.{filter, count_by, sum_by}
+use Rattle.hz_tree.specs.declared.function_tree.FunctionTree.{FunctionTree}
 use Rattle.hz_tree.specs.declared.index.FunctionInfo.{FunctionInfo}
 use Rattle.hz_tree.specs.declared.tree.Bound.{Bound}
 use Rattle.hz_tree.specs.declared.tree.FunctionKind.{FunctionKind}
@@ -13,13 +14,6 @@ use Rattle.hz_tree.specs.declared.tree.Tree.TheOpen.{Tree-F}
 use Rattle.hz_tree.specs.tokens.Text.{Text}
 use Rattle.hz_tree.specs.tokens.Tokens.{tokens}
 use Rattle.hz_tree.specs.trees.Places.{node}
-
-pub record FunctionTree : Type 0 where
-  pub number : ℕ
-  pub kind : FunctionKind
-  pub parameters : List Text
-  pub rest : Option Text
-  pub body : Tree
 
 -- The number of the function that starts at this place. Function 0 is the script; the others are numbered by where they
 -- start.

@@ -39,5 +39,5 @@ returns-in_err-step c =
 pub returns : goal.returns
 returns c =
     sym c.loop-symbol.invariant
-    ∙ ap (λ xs. outcome c.loop-symbol.heard (ends xs c.loop-symbol.cursor)) c.in_default.ensures
+    ∙ ap (λ xs. outcome c.loop-symbol.heard (ends xs c.loop-symbol.cursor)) c.in_default.ensures.0
     ∙ ap (outcome c.loop-symbol.heard) (ends_none c.loop-symbol.cursor)
