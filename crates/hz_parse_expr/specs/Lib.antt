@@ -1,2 +1,5 @@
+pub mod Functions
+pub mod Groups
 pub mod Makes
+pub mod Properties
 pub mod Trees

@@ -1,0 +1,14 @@
+use Rattle.std.proofs.Common.{◌∙◌, ap, drop}
+use Rattle.hz_tree.specs.declared.class.Class.TheVariants as k
+use Rattle.hz_parts.specs.declared.parts.Parts.{Parts}
+use Rattle.hz_parts.specs.Values.{seen_token}
+use Rattle.hz_parse_expr.specs.Functions.{expressed}
+use Rattle.hz_parse_expr.proofs.RowLaws.{made_of}
+use Rattle.hz_parse_expr.proofs.primaries.functions.generator.Goals as goal
+
+pub returns : goal.returns
+returns g c =
+    λ context. made_of (expressed (g.N.Numbers.functions c.args.numbers.now) context k.Star) _ c.inner.result
+    c.args.parts.now c.inner.new.parts c.inner.ensures
+    (λ h parts below e. h (seen_token parts.1.0) parts.0.at parts.1.1.1.0 below
+    (c.past_token.ensures ∙ ap (λ (p : Parts). record p { seen = drop 1 p.seen }) e))
