@@ -1,5 +1,4 @@
 -- The nonterminals of statements, by their makers.
-use Rattle.std.specs.Prelude.{Bool, true, false}
 use Rattle.hz_tree.specs.declared.nonterminal.Nonterminal.{Nonterminal}
 use Rattle.hz_tree.specs.declared.nonterminal.Nonterminal.TheVariants as n
 use Rattle.hz_parse_stmt.specs.declared.make.Group.{Group}
@@ -32,11 +31,3 @@ group_of (n.DeclaredHead word c) = group.Head
 group_of (n.LeftHead c) = group.Head
 group_of (n.OptionalExpr c) = group.Head
 group_of _ = group.Other
-
-abbrev pub is_statement : Group → Bool
-is_statement group.Other = false
-is_statement _ = true
-
--- a nonterminal of statements, of what they are made of, or of the items that they stand among
-abbrev pub of_statement : Nonterminal → Bool
-of_statement m = is_statement (group_of m)

@@ -13,4 +13,4 @@ mod shapes;
 mod statements;
 mod variables;
 
-pub use make::make_statement;
+pub use make::make_row;

@@ -1,6 +1,6 @@
 //! The makers by their nonterminals.
 
-ghost use Rattle.std.specs.Prelude.{◌≡◌, true, List};
+ghost use Rattle.std.specs.Prelude.{◌≡◌, List};
 ghost use Rattle.hz_tree.specs.declared.index.FunctionInfo.{FunctionInfo};
 ghost use Rattle.hz_parse_stmt.specs.declared.make.Group.TheVariants as group;
 ghost use Rattle.hz_parse_stmt.specs.Groups as spec;
@@ -8,6 +8,7 @@ ghost use Rattle.hz_parts.specs.Makes.{Makes, row_of};
 
 use crate::{handlers, heads, items, statements, variables};
 use hz_list::Memory;
+use hz_parse_expr::make_expression;
 use hz_parts::{Mark, Numbers, Parts};
 use hz_tree::Nonterminal;
 use std::alloc::Global;
@@ -23,22 +24,21 @@ enum Group {
     Other,
 }
 
-/// Puts what the row of a mark makes in the place of its parts, where the nonterminal is one of statements. Only memory
-/// can fail.
-pub fn make_statement<N: Numbers>(
+/// Puts what the row of a mark makes in the place of its parts: the rows of statements are made here, the others by the
+/// makers of expressions. Only memory can fail.
+pub fn make_row<N: Numbers>(
     alloc: Global,
     numbers: &N,
     mark: Mark,
     parts: &mut Parts<'_>,
 ) -> Result<(), Memory>
-    ensures { spec.of_statement mark.nonterminal ≡ true
-        → Makes mark.nonterminal (row_of (N.functions numbers.now) mark) result parts.old parts.new }
+    ensures { Makes mark.nonterminal (row_of (N.functions numbers.now) mark) result parts.old parts.new }
 {
     match group_of(mark.nonterminal) {
         Group::Item => make_item(alloc, numbers, mark, parts),
         Group::Statement => make_own_statement(alloc, mark, parts),
         Group::Head => make_head(alloc, mark, parts),
-        Group::Other => Ok(()),
+        Group::Other => make_expression(alloc, numbers, mark, parts),
     }
 }
 

@@ -4,7 +4,7 @@ use Rattle.hz_tree.specs.declared.outside.OutsideKind.TheVariants as outside
 use Rattle.hz_tree.specs.grammar.Classes.{is_async_word, is_of}
 use Rattle.hz_tree.specs.grammar.HeadRows.{is_no_left}
 use Rattle.hz_parse_stmt.specs.Heads.{left_row, no_left_row}
-use Rattle.hz_parse_stmt.proofs.RowLaws.{first_made}
+use Rattle.hz_parse_expr.proofs.RowLaws.{first_made}
 use Rattle.hz_parse_stmt.proofs.heads.expr_head.Goals as goal
 
 pub returns-then-is_no_left : goal.returns-then-is_no_left

@@ -1,6 +1,6 @@
 use Rattle.hz_tree.specs.declared.class.Class.TheVariants as k
 use Rattle.hz_tree.specs.grammar.HeadRows.{head_by}
-use Rattle.hz_parse_stmt.proofs.RowLaws.{made_by}
+use Rattle.hz_parse_expr.proofs.RowLaws.{made_by}
 use Rattle.hz_parse_stmt.proofs.heads.head.Goals as goal
 
 pub returns-in-Var : goal.returns-in-Var

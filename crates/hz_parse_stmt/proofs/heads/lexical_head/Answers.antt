@@ -4,7 +4,7 @@ use Rattle.hz_parts.specs.declared.heads.AfterFor.TheVariants as after_for
 use Rattle.hz_parts.specs.declared.parts.Seen.{Seen}
 use Rattle.hz_parts.specs.Values.{push_after_for, push_after_name, push_name, push_seen, push_tree}
 use Rattle.hz_parts.specs.Values.{seen_token, seen_told, shown_name}
-use Rattle.hz_parse_stmt.proofs.RowLaws.{made_of, same_token, without_token}
+use Rattle.hz_parse_expr.proofs.RowLaws.{made_of, same_token, without_token}
 use Rattle.hz_parse_stmt.proofs.heads.lexical_head.Goals as goal
 
 pub returns : goal.returns

@@ -1,6 +1,7 @@
 use Rattle.hz_tree.specs.declared.class.Class.TheVariants as k
 use Rattle.hz_parse_stmt.specs.Items.{declared}
-use Rattle.hz_parse_stmt.proofs.RowLaws.{function_made, made_by}
+use Rattle.hz_parse_expr.proofs.RowLaws.{made_by}
+use Rattle.hz_parse_stmt.proofs.RowLaws.{function_made}
 use Rattle.hz_parse_stmt.proofs.items.declaration.Goals as goal
 
 pub returns-in-Star : goal.returns-in-Star

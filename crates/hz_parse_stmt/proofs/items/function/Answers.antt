@@ -1,7 +1,7 @@
 use Rattle.hz_tree.specs.declared.class.Class.TheVariants as k
 use Rattle.hz_parts.specs.Values.{seen_token}
 use Rattle.hz_parse_stmt.specs.Items.{declared}
-use Rattle.hz_parse_stmt.proofs.RowLaws.{made_of}
+use Rattle.hz_parse_expr.proofs.RowLaws.{made_of}
 use Rattle.hz_parse_stmt.proofs.items.function.Goals as goal
 
 pub returns : goal.returns

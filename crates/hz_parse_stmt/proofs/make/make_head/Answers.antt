@@ -1,5 +1,5 @@
 use Rattle.hz_tree.specs.declared.nonterminal.Nonterminal.TheVariants as n
-use Rattle.hz_parse_stmt.proofs.RowLaws.{row_made}
+use Rattle.hz_parse_expr.proofs.RowLaws.{row_made}
 use Rattle.hz_parse_stmt.proofs.make.make_head.Goals as goal
 
 pub returns-in-ForOpen : goal.returns-in-ForOpen

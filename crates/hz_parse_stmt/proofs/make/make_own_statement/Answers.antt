@@ -1,6 +1,7 @@
 use Rattle.std.proofs.Common.{Ok}
 use Rattle.hz_tree.specs.declared.nonterminal.Nonterminal.TheVariants as n
-use Rattle.hz_parse_stmt.proofs.RowLaws.{row_made, thrown_made}
+use Rattle.hz_parse_expr.proofs.RowLaws.{row_made}
+use Rattle.hz_parse_stmt.proofs.RowLaws.{thrown_made}
 use Rattle.hz_parse_stmt.proofs.make.make_own_statement.Goals as goal
 
 pub returns-in-Statement : goal.returns-in-Statement

@@ -4,7 +4,7 @@ use Rattle.hz_tree.specs.declared.outside.OutsideKind.TheVariants as outside
 use Rattle.hz_tree.specs.grammar.Classes.{is_colon, is_name}
 use Rattle.hz_tree.specs.grammar.Look.{is_async}
 use Rattle.hz_tree.specs.grammar.StatementRows.{labelled_row, statement_by}
-use Rattle.hz_parse_stmt.proofs.RowLaws.{second_made}
+use Rattle.hz_parse_expr.proofs.RowLaws.{second_made}
 use Rattle.hz_parse_stmt.proofs.statements.statement.Goals as goal
 
 pub returns-else-is_labelled : goal.returns-else-is_labelled

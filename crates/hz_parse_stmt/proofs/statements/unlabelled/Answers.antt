@@ -1,7 +1,7 @@
 use Rattle.std.proofs.Common.{rules}
 use Rattle.hz_tree.specs.declared.class.Class.TheVariants as k
 use Rattle.hz_tree.specs.grammar.StatementRows.{statement_by}
-use Rattle.hz_parse_stmt.proofs.RowLaws.{made_by}
+use Rattle.hz_parse_expr.proofs.RowLaws.{made_by}
 use Rattle.hz_parse_stmt.proofs.statements.unlabelled.Goals as goal
 
 pub returns-in-Var : goal.returns-in-Var
