@@ -15,7 +15,7 @@ use Rattle.hz_tree.specs.grammar.Classes.{is_function}
 use Rattle.hz_tree.specs.grammar.ExpressionRows.{arrow_sign_by}
 use Rattle.hz_tree.specs.grammar.HeadRows.{is_no_left, is_unary, expr_head_row, head_by}
 use Rattle.hz_tree.specs.grammar.Look.{begins_arrow, cause_by, is_async, stuck}
-use Rattle.hz_tree.specs.grammar.OperatorRows.{is_loosest, arrow_row, operation_by, operation_row, tails_by}
+use Rattle.hz_tree.specs.grammar.OperatorRows.{is_loosest, operation_row, tails_by}
 use Rattle.hz_tree.specs.grammar.Operators.{unary_operator}
 use Rattle.hz_tree.specs.grammar.PrimaryRows.{primary_by, template_rest_by}
 use Rattle.hz_tree.specs.grammar.PropertyRows.{getter_row, setter_row, prop_by, key_rest_by}

@@ -1,6 +1,6 @@
 -- Behind a function that was passed over.
 use Rattle.std.proofs.Common.{◌+◌, ◌≤◌, ◌||◌, if◌then◌else◌, None, subst, arith}
-use Rattle.std.proofs.Common.{◌≡◌, ◌≢◌, ℕ, ◌<◌, Bool, true, false, List, [], ◌∷◌, ◌++◌, length, Some, refl, ap, sym, ◌∙◌}
+use Rattle.std.proofs.Common.{◌≡◌, ◌≢◌, ℕ, Bool, true, false, List, [], ◌∷◌, ◌++◌, length, Some, refl, ap, sym, ◌∙◌}
 use Rattle.hz_tree.specs.grammar.Look.{Terminal}
 use Rattle.hz_tree.specs.reading.Reading.{end_behind}
 use Rattle.hz_laws.specs.Middle.{Balances}

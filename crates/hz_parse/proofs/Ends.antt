@@ -5,13 +5,10 @@ use Rattle.hz_tree.specs.declared.symbol.Symbol.{Symbol}
 use Rattle.hz_tree.specs.declared.symbol.Symbol.TheVariants as s
 use Rattle.hz_tree.specs.grammar.Look.{Terminal, look}
 use Rattle.hz_tree.specs.grammar.Symbols.{Parts, RowOf, goes, refuses, Value}
-use Rattle.hz_tree.specs.grammar.Table.{row, step_of}
+use Rattle.hz_tree.specs.grammar.Table.{row}
 use Rattle.hz_tree.specs.reading.Reading.{Reading, Got, Stuck, Deeper, and_then, Reader, read_one, read_all}
 use Rattle.hz_tree.specs.reading.Reading.{by_row, reads_to, reads_by, enough, reads, Events, tells}
-use Rattle.hz_laws.proofs.Depth.{Fine}
-use Rattle.hz_laws.proofs.Ranks.{is_fine}
-use Rattle.hz_laws.proofs.ReadingLaws.{by_law}
-use Rattle.hz_laws.proofs.RowLaws.{rows_fine, tells_tree}
+use Rattle.hz_laws.proofs.RowLaws.{tells_tree}
 use Rattle.hz_laws.proofs.Told.{tell_reading}
 use Rattle.hz_own.specs.Owned.{Owned, counting, own_row, owns}
 
@@ -83,18 +80,6 @@ same_end v w r r' ts us e h i = ended v w ts us (ap ending (sym h) ∙ e ∙ ap 
     ended : {A B : Type 0} (v : A) (w : B) (ts us : List Terminal)
         → ending (Got v ts) ≡ ending (Got w us) → ts ≡ us
     ended v w ts us e = cc
-
--- ---- the reading without its bound on the depth
-
-step_counted : {m : Nonterminal} (r : RowOf Value m) → step_of (counting r) ≡ step_of r
-step_counted (goes right make) = refl
-step_counted (refuses cause) = refl
-
-own_fine : Fine own_row
-own_fine m l = ap (is_fine m) (step_counted (row m l)) ∙ rows_fine m l
-
-pub owns_law : (m : Nonterminal) (ts : List Terminal) → owns m ts ≡ by_row owns m (own_row m (look ts)) ts
-owns_law = by_law own_row own_fine
 
 -- ---- what is told
 

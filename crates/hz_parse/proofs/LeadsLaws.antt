@@ -39,7 +39,7 @@ use Rattle.hz_own.specs.Owned.{counted_from, counting, Owned, own_row, owns, tak
 use Rattle.hz_own.proofs.RowsOpen.{opens_none}
 use Rattle.hz_parse.specs.Asked.{Told, turned}
 use Rattle.hz_parse.proofs.Asked.{Unasked, unasked, Went}
-use Rattle.hz_parse.proofs.Ends.{owns_law}
+use Rattle.hz_alone.proofs.Readings.{owns_law}
 use Rattle.hz_parse.proofs.Marks.{row_unmarked, rows_unmarked}
 use Rattle.hz_parse.proofs.Plain.{inside_leads, leads_plain, to_right}
 use Rattle.hz_parse.proofs.Rows.{RowRead, row_read, keeps_leads, skips_leads}
@@ -274,7 +274,7 @@ module _ (functions : List FunctionInfo) (Known : FunctionNode → Type 0)
       (sym (owns_law m ts) ∙ one.owned)
 
   -- the row that begins, whatever is told of an arrow that is not asked for
-  row_went : (opened : Bool) (m : Nonterminal) (more : List Symbol) (marks : List Mark) (ts : List Terminal)
+  pub row_went : (opened : Bool) (m : Nonterminal) (more : List Symbol) (marks : List Mark) (ts : List Terminal)
       (p : Stacks) (own : ℕ) → Goes opened (s.Read m ∷ more) marks ts p own → Went (row m (look ts))
   row_went opened m more marks ts p own one =
       went m (row m (look ts)) ts one.rest one.value (sym (reads_law m ts) ∙ one.read)

@@ -2,7 +2,9 @@ pub mod Ends
 pub mod Split
 pub mod Even
 pub mod Marks
+pub mod ArrowsAhead
 pub mod Asked
+pub mod LeftBehind
 pub mod Plain
 pub mod Whole
 pub mod SkipNodes
@@ -12,3 +14,11 @@ pub mod Measure
 pub mod Numbering
 pub mod Behind
 pub mod Tokens
+pub mod TurnLaws
+pub mod TurnSteps
+pub mod WholeLaws
+pub mod InnerFunctions
+pub mod ScriptAlone
+pub mod SourceFunctions
+pub mod FunctionShapes
+pub mod Expressions

@@ -1,6 +1,6 @@
 -- What is left to do for a stack of symbols falls with each turn.
-use Rattle.std.proofs.Common.{◌≡◌, ℕ, suc, ◌+◌, ◌*◌, ◌<◌, true, false, not, if◌then◌else◌, List, [], ◌∷◌}
-use Rattle.std.proofs.Common.{◌++◌, length, refl, ap, ◌∙◌, arith}
+use Rattle.std.proofs.Common.{◌≡◌, ℕ, suc, ◌+◌, ◌<◌, true, false, not, if◌then◌else◌, List, [], ◌∷◌}
+use Rattle.std.proofs.Common.{◌++◌, refl, ap, ◌∙◌, arith}
 use Rattle.hz_tree.specs.declared.class.Class.{Class}
 use Rattle.hz_tree.specs.declared.nonterminal.Nonterminal.{Nonterminal}
 use Rattle.hz_tree.specs.declared.signal.Signal.{Signal}
@@ -15,16 +15,9 @@ use Rattle.hz_tree.specs.reading.Stack.{Verdict, Through, At, Lost, ends, verdic
 use Rattle.hz_laws.proofs.MoveLaws.{work_append, work_pushes, work_take, work_tell}
 use Rattle.hz_parts.specs.declared.mark.Mark.{Mark}
 use Rattle.hz_parse.specs.Leads.{is_mark, mark_symbol, no_marks, unmarked}
+use Rattle.hz_parse.specs.Turns.{bare, measure}
 use Rattle.hz_parse.proofs.Ends.{Tells, read_tells}
 use Rattle.hz_parse.proofs.Even.{Takes, takes_got, and_first, and_second}
-
--- the symbols without those that stand for marks
-abbrev pub bare : List Symbol → List Symbol
-bare [] = []
-bare (x ∷ xs) = if unmarked x then x ∷ bare xs else bare xs
-
-abbrev pub measure : List Symbol → List Mark → List Terminal → ℕ
-measure symbols marks ts = 2 * work (bare symbols) ts + length marks
 
 bare_next : (x : Symbol) (xs : List Symbol) → unmarked x ≡ true → bare (x ∷ xs) ≡ x ∷ bare xs
 bare_next x xs h = ap (λ b. if b then x ∷ bare xs else bare xs) h

@@ -92,7 +92,7 @@ skip_nodes functions m skip {make = make} function nodes opened ends even unmark
   opens = opens;
 }
 
-abbrev function_of : (opened closed : Told) → FunctionForm → FunctionKind → List Bound × Option Rest → Tree
+abbrev pub function_of : (opened closed : Told) → FunctionForm → FunctionKind → List Bound × Option Rest → Tree
     → FunctionNode
 function_of opened closed form kind params body = record {
   at = opened.at;

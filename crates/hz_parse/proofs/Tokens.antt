@@ -1,10 +1,10 @@
 -- What a token that is taken leaves, and what is seen of it.
-use Rattle.std.proofs.Common.{◌≡◌, ℕ, ◌+◌, ◌≤◌, List, ◌∷◌, length, Result, Ok, Err, OnOk, Some, refl, ap, sym, ◌∙◌, subst}
+use Rattle.std.proofs.Common.{◌≡◌, ◌≤◌, List, ◌∷◌, length, Result, Ok, Err, OnOk, ap, sym, ◌∙◌, subst}
 use Rattle.hz_list.specs.declared.out_of_memory.Memory.{Memory}
 use Rattle.hz_tree.specs.declared.class.Class.{Class}
 use Rattle.hz_tree.specs.grammar.Look.{Terminal}
 use Rattle.hz_tree.specs.reading.Reading.{Got, takes}
-use Rattle.hz_middle.specs.Place.{Place, Took, left, past, terminal}
+use Rattle.hz_middle.specs.Place.{Place, Took, left, terminal}
 use Rattle.hz_middle.proofs.PlaceLaws.{left_some}
 use Rattle.hz_parse.proofs.Behind.{token_inside}
 use Rattle.hz_parse.proofs.Split.{got_value}

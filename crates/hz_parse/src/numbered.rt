@@ -3,11 +3,15 @@
 ghost use Rattle.std.specs.Prelude.{◌≡◌, ◌<◌, length, slice_get, Some};
 ghost use Rattle.std.specs.Option.{option_map};
 ghost use Rattle.hz_tree.specs.sources.Refusals.{functions as functions_in};
+ghost use Rattle.hz_parse.specs.Turns as spec;
+ghost use Rattle.hz_parse.specs.Turns.{arrow_at};
 
 use hz_index::Index;
 use hz_parts::Numbers;
+use hz_tree::FunctionKind;
 
 /// The functions of an index.
+#[derive(Drop)]
 pub struct Numbered<'i, 'a> {
     index: &'i Index<'a>,
 }
@@ -27,6 +31,18 @@ impl<'i, 'a> Numbered<'i, 'a> {
     {
         self.index.function(number).end
     }
+
+    /// Whether a function that starts at this place, in bytes, is an arrow.
+    pub fn is_arrow(&self, place: usize) -> bool
+        ensures { result ≡ arrow_at (functions_in self.now.index.now.source) place }
+    {
+        let number = self.number_at(place);
+        if number >= self.index.count() {
+            return false;
+        }
+        let function = self.index.function(number);
+        function.start == place && is_arrow_kind(function.kind)
+    }
 }
 
 impl<'i, 'a> Numbers for Numbered<'i, 'a> {
@@ -45,5 +61,14 @@ impl<'i, 'a> Numbers for Numbered<'i, 'a> {
             }
         }
         low
+    }
+}
+
+fn is_arrow_kind(kind: FunctionKind) -> bool
+    ensures { result ≡ spec.is_arrow_kind kind }
+{
+    match kind {
+        FunctionKind::Arrow => true,
+        _ => false,
     }
 }

@@ -1,4 +1,4 @@
-use Rattle.std.proofs.Common.{◌≡◌, ◌≤◌, length, ap, sym, ◌∙◌, refl, subst, true, arith}
+use Rattle.std.proofs.Common.{◌≡◌, ◌≤◌, length, ap, sym, ◌∙◌, subst, arith}
 use Rattle.hz_tree.specs.reading.Reading.{end_behind}
 use Rattle.hz_tree.specs.sources.Refusals.{functions as functions_in}
 use Rattle.hz_cuts.specs.Rows.{is_close, left_at_close, some_symbol}
@@ -9,23 +9,23 @@ use Rattle.hz_parse.proofs.passing.pass.Goals as goal
 
 pub skip-requires : goal.skip-requires
 skip-requires c =
-    let s = c.requires.here in
+    let s = c.requires.here.3 in
     let end : c.end.result ≡ end_behind s.rest =
     end_found (functions_in c.args.numbers.now.index.now.source) c.args.symbols.now (left c.args.place.now)
-    c.args.parts.now c.in-Some.opened.now c.number_at-number.result c.end.result _ c.in-Some.ensures
+    c.requires.here.0 c.args.opened c.number_at-number.result c.end.result _ c.requires.here.2
     c.number_at-number.ensures c.end.ensures s in
     omega (arith, end, rest_inside c.args.place.now s.rest c.requires.inside s.passed s.goes_on)
 
 pub drop_to_close-requires : goal.drop_to_close-requires
 drop_to_close-requires c =
-    let s = c.requires.here in
+    let s = c.requires.here.3 in
     ap (some_symbol is_close) s.split ∙ some_close s.middle s.behind
 
 pub returns : goal.returns
-returns c = λ s.
+returns c = λ p others e s.
     let end : c.end.result ≡ end_behind s.rest =
     end_found (functions_in c.args.numbers.now.index.now.source) c.args.symbols.now (left c.args.place.now)
-    c.args.parts.now c.in-Some.opened.now c.number_at-number.result c.end.result _ c.in-Some.ensures
+    p c.args.opened c.number_at-number.result c.end.result _ e
     c.number_at-number.ensures c.end.ensures s in (
       ap left c.skip.ensures ∙ passed c.args.place.now s.rest c.end.result s.passed s.goes_on end,
       (

@@ -1,6 +1,6 @@
-use Rattle.std.proofs.Common.{◌≡◌, ◌∷◌, ◌∙◌, ap, true, Ok, subst}
+use Rattle.std.proofs.Common.{◌∙◌, ap, Ok, subst}
 use Rattle.hz_middle.specs.Place.{Eats}
-use Rattle.hz_parts.specs.Values.{push_seen, seen_token}
+use Rattle.hz_parts.specs.Values.{push_seen}
 use Rattle.hz_parse.proofs.Tokens.{Leaves, on_ok, took}
 use Rattle.hz_parse.proofs.token.take.Goals as goal
 
