@@ -1,7 +1,0 @@
-use Rattle.hz_parse_expr.proofs.MakesLaws.{first_argument}
-use Rattle.hz_parse_expr.proofs.arguments.arguments.Goals as goal
-
-pub returns-in_default : goal.returns-in_default
-returns-in_default c =
-    λ context. first_argument context c.args.one c.first_item.result c.args.parts.now c.first_item.new.parts
-    c.in_default.not-RightParen c.first_item.ensures
